@@ -185,7 +185,8 @@ def test_since_the_beginning() -> None:
         most = max(int(row["capacity"]) for row in rows(it)["rows"])
         for row in rows(it)["rows"]:
             capacity, flow = int(row["capacity"]), int(row["flow"])
-            _, use, _, width = marks[row["number"]]
+            _, use, _, width, way = marks[row["number"]]
+            assert way == ">"
             assert int(width) == round(9 * math.sqrt(capacity / most)), row
             assert int(use) == min(9, 10 * flow // capacity), row
 

@@ -52,7 +52,6 @@ def judge(it: Board, pipes: list[Pipe], numbers: dict[str, int]) -> None:
     for name in left:
         row = it.told(f"arc?number={numbers[name]}")
         assert (row["without"], row["lost"]) == (str(left[name]), str(value - left[name]))
-        assert row["without_both"] == ""
 
 
 def test_each_state() -> None:
@@ -77,7 +76,8 @@ def test_each_state() -> None:
 
 
 def test_both_ways(tmp_path: Path) -> None:
-    """What is left without both directions of a pipe is what is left when both are closed."""
+    """What is left without a pipe that leads both ways is what is left when it is closed, which
+    closes both its arcs."""
     for seed in range(12):
         random = Random(f"both ways {seed}")
         places = ["S", "A", "B", "C", "T"]
@@ -88,13 +88,16 @@ def test_both_ways(tmp_path: Path) -> None:
         table = tmp_path / f"{seed}.csv"
         table.write_text("\n".join([*rows, "S,A,3,in,->", "B,T,3,out,->", ""]))
         with board("--source", "S", "--sink", "T", str(table)) as it:
-            assert worth(it)["is_known"]
+            losses = {int(number): int(loss) for number, loss in worth(it)["losses"].items()}
+            value = int(it.told("state")["value"])
+            assert [*losses] == [*range(1, 19, 2), 19, 20]
             for number in range(1, 19, 2):
                 first, second = (it.told(f"arc?number={at}") for at in (number, number + 1))
-                assert first["name"] == second["name"]
-                assert first["without_both"] == second["without_both"] != ""
-                closed = it.do(what="close-all", arcs=[number, number + 1])
-                assert closed["value"] == first["without_both"]
+                assert first == second
+                assert first["without"] == str(value - losses[number])
+                closed = it.do(what="close", arc=number)
+                assert closed["value"] == first["without"]
+                assert closed["at"] == 1
                 it.do(what="go", step=0)
                 worth(it)
 

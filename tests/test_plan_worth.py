@@ -58,25 +58,22 @@ def test_after_changes() -> None:
 
 
 def test_a_pipe_that_leads_both_ways(tmp_path: Path) -> None:
-    """What is left without each direction, and without both, in the unit of the table."""
+    """What is left without it, in the unit of the table: it is one pipe."""
     (tmp_path / "both.csv").write_text(BOTH)
     # Then 2 come by way of `by`, or 5.5 by both: never one for the other.
-    ran = run("dmf-plan", f"{tmp_path}/both.csv", "A", "D", typed="solve\nworth Main\nworst\n")
+    typed = "solve\nworth Main\nworst\nclose by\nsolve\nworth #3\n"
+    ran = run("dmf-plan", f"{tmp_path}/both.csv", "A", "D", typed=typed)
     assert ran.stdout.splitlines()[1:] == [
-        "2 arcs have this name",
-        "  closing #2 Main, B -> C: 5.5 to 2 l/s, 3.5 less",
-        "  closing #3 Main, C -> B: 5.5 to 5.5 l/s, no change",
-        "  closing both: 5.5 to 2 l/s, 3.5 less",
+        "closing Main: 5.5 to 2 l/s, 3.5 less",
         "  without (l/s)  loss",
         "              0   5.5  #5 out, C -> D",
         "              2   3.5  #1 one, A -> B",
-        "              2   3.5  #2 Main, B -> C",
+        "              2   3.5  #2 Main, B <-> C",
         "            3.5     2  #4 by, A -> C",
+        "value 3.5 l/s, 2 less, the greatest",
+        "value 3.5 l/s, the greatest",
+        "closing Main: 3.5 to 0 l/s, 3.5 less",
     ]
-    typed = "close #3\nsolve\nworth Main\nclose Main\nsolve\nworth by\n"
-    ran = run("dmf-plan", f"{tmp_path}/both.csv", "A", "D", typed=typed)
-    assert "\nclosing Main: 5.5 to 2 l/s, 3.5 less\n" in ran.stdout
-    assert "\nclosing by: 2 to 0 l/s, 2 less\n" in ran.stdout
 
 
 def test_several_arcs_of_one_name(tmp_path: Path) -> None:

@@ -162,11 +162,12 @@ PROBLEMS: list[tuple[Case, str]] = [
     (Case("A,B,70\n", ("--scale", "0.5", "A", "B")), SCALED.replace("times 10", "times 0.5")),
     (
         Case("A,B,3\n", ("--both-ways", "A", "B")),
-        ARC.replace("max 2 1", "max 2 2") + "a 2 1 3\n",
+        "c both ways 1 2\n" + ARC.replace("max 2 1", "max 2 2") + "a 2 1 3\n",
     ),
     (
         Case("A,B,3,M", ("--both-ways", "A", "B")),
-        "c node 1 A\nc node 2 B\nc arc 1 M\nc arc 2 M\np max 2 2\nn 1 s\nn 2 t\na 1 2 3\na 2 1 3\n",
+        "c both ways 1 2\nc node 1 A\nc node 2 B\nc arc 1 M\nc arc 2 M\np max 2 2\nn 1 s\nn 2 t\n"
+        "a 1 2 3\na 2 1 3\n",
     ),
     (Case(ROW, ("A", "B", "--node-limits", "l.csv"), {"l.csv": "Depot,5\n"}), LIMITED),
     (

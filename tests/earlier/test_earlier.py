@@ -56,7 +56,8 @@ def earlier_project(name: str, folder: Path) -> dmf.OpenProject:
 
 
 def same_project(name: str, folder: Path) -> dmf.OpenProject:
-    """Make a project of the same table, and do the same with it."""
+    """Make a project of the same table, and do the same with it. Version 0.1.0 made two rows of one
+    that leads both ways, so both stand in this table."""
     table, given, first, second = PROJECTS[name]
     folder.mkdir()
     for path in (HERE / name).glob("*.csv"):
@@ -65,9 +66,21 @@ def same_project(name: str, folder: Path) -> dmf.OpenProject:
         key: folder / value if str(value).endswith(".csv") else value
         for key, value in given.items()
     }
+    if arguments.pop("both_ways", False):
+        (folder / table).write_text(with_rows_back((folder / table).read_text()))
     project = dmf.new_project(folder / table, **arguments)
     play(project, first + second)
     return project
+
+
+def with_rows_back(text: str) -> str:
+    """Return a table with a row back below each row of an arc."""
+    title, *rows = text.splitlines()
+    found = [title]
+    for row in rows:
+        tail, head, rest = row.split(";", 2)
+        found += [row, f"{head};{tail};{rest}"] if head else [row]
+    return "".join(f"{row}\n" for row in found)
 
 
 def states(project: dmf.OpenProject) -> list[object]:

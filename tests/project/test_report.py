@@ -318,9 +318,9 @@ def test_the_check_is_one(monkeypatch: pytest.MonkeyPatch) -> None:
     """What `dmf check` does not find greatest is no report."""
     desk = desk_of(water_problem())
     assert checked(desk) == "c greatest 165"
-    wrong = desk.flows()[:]
+    wrong = desk.arc_flows()[:]
     wrong[0] -= 1
-    monkeypatch.setattr(Desk, "flows", lambda self: wrong)
+    monkeypatch.setattr(Desk, "arc_flows", lambda self: wrong)
     with pytest.raises(DeskFault, match="dmf check does not confirm the flow"):
         checked(desk)
     monkeypatch.undo()

@@ -95,7 +95,7 @@ NOTES = [
     " diameter (mm) at 1.5 m/s",
     "rows without a limit are read as 10000, which is more than all others together: line 22",
     "rows are closed, and carry nothing, as 'status' says: lines 17 and 25",
-    "rows are read as two arcs each, as 'direction' says: lines 15, 17, 18, 19, 20 and 25",
+    "rows are read as leading both ways, as 'direction' says: lines 15, 17, 18, 19, 20 and 25",
     "demands are multiplied by 1.5, as [OPTIONS] says",
     "reservoirs supply without a limit: 'Lake'",
     "tanks only let water through: 'Tower'",

@@ -96,6 +96,11 @@ def number_in(text: str, sign: str = "") -> Decimal:
     return numbers.pop()
 
 
+def magnitude(amount: Quantity) -> Quantity:
+    """Return an amount without its sign."""
+    return -amount if amount < 0 else amount
+
+
 def plain_text(number: Quantity) -> str:
     """Return a number as a text with a point, and without an exponent, thousands separators or
     trailing zeros: `30.5`."""

@@ -16,30 +16,29 @@ from dataclasses import dataclass
 from decimal import Decimal
 
 from ..errors import CapacitiesPast64Bits, TooManyArcs
-from ..quantity import EXACT, LARGEST, Quantity, QuantityFault, number_in, plain_text
+from ..quantity import EXACT, LARGEST, Quantity, QuantityFault, magnitude, number_in, plain_text
 from ..sweeps.cases import SweepResult, sweep
 from ..tables.titles import title_of
 from ..text.spelling import quoted_name
-from .live_network import LiveNetwork
-from .steps import Add, DeskFault, Follow, Node, Trial
+from .steps import DeskFault, Node, Trial
 from .workspace import Desk
 from .worth import judge_greatest
 
 
 def trials_of(desk: Desk, numbers: Iterable[int]) -> Generator[Trial, None, None]:
-    """Return a sweep over these arcs: the greatest values if each alone is closed, and if each
+    """Return a sweep over these pipes: the greatest values if each alone is closed, and if each
     alone has a second one beside it. Each is tried on a copy of the network as it is at the call,
-    on all processors. Raise a `DeskFault` unless the flow is greatest and the arcs are open."""
+    on all processors. Raise a `DeskFault` unless the flow is greatest and the pipes are open."""
     judge_greatest(desk)
     wanted = list(numbers)
     for number in wanted:
-        desk.network.open_line(number)
+        desk.network.open_arcs(number)
     desk.follow()
     return trials(desk, wanted)
 
 
 def trials(desk: Desk, wanted: Iterable[int]) -> Generator[Trial, None, None]:
-    """Return the same, for open arcs and a greatest flow."""
+    """Return the same, for open pipes and a greatest flow."""
     held, value = desk.network, desk.value
     numbers, cut, quantity = list(wanted), set(desk.cut_arcs()), held.measure.quantity
     # Closing an arc that carries nothing leaves the flow as it is. A second arc beside one that is
@@ -47,23 +46,26 @@ def trials(desk: Desk, wanted: Iterable[int]) -> Generator[Trial, None, None]:
     room = LARGEST - sum(
         map(held.whole, (number for number, line in enumerate(held.lines, 1) if not line.is_closed))
     )
-    doubling = {number: _doubling(held, number) for number in numbers}
-    flows = desk.flows()
+    seconds = {number: held.second(number) for number in numbers}
+    following = {number: held.following(added) for number, added in seconds.items()}
+    flows, whole = desk.flows(), held.measure.whole
     carrying = {number for number in numbers if flows[number - 1]}
     cases: list[list[tuple[object, ...]]] = []
     for number in numbers:
-        arc = held.handle(number)
         if number in carrying:
-            cases.append([("close", arc)])
+            cases.append([("close", held.handle(arc)) for arc in held.open_arcs(number)])
         if number in cut:
-            others = [
-                ("cap", held.handle(cap.arc), held.measure.whole(cap.capacity))
-                for cap in doubling[number]
+            adds = [
+                ("add", held.node_of(add.tail), held.node_of(add.head), whole(add.capacity))
+                for add in seconds[number]
             ]
-            cases.append([("add", arc.tail, arc.head, held.whole(number)), *others])
+            others = [
+                ("cap", held.handle(cap.arc), whole(cap.capacity)) for cap in following[number]
+            ]
+            cases.append([*adds, *others])
     wholes = {
-        number: held.whole(number)
-        + sum(held.measure.whole(it.capacity) - held.whole(it.arc) for it in doubling[number])
+        number: sum(whole(add.capacity) for add in seconds[number])
+        + sum(whole(it.capacity) - held.whole(it.arc) for it in following[number])
         for number in numbers
     }
     jobs = max(1, min(len(cases), len(os.sched_getaffinity(0))))
@@ -81,12 +83,6 @@ def trials(desk: Desk, wanted: Iterable[int]) -> Generator[Trial, None, None]:
                 yield Trial(number, closed, doubled)
 
     return found()
-
-
-def _doubling(held: LiveNetwork, number: int) -> list[Follow]:
-    """Return what else changes if a second one of its capacity lies beside an arc."""
-    line = held.lines[number - 1]
-    return held.following([Add(line.tail, line.head, line.capacity)])
 
 
 def _greatest(result: SweepResult[Node]) -> int:
@@ -231,12 +227,14 @@ def _units(desk: Desk, given: Prices, wanted: Quantity, way: Way) -> Iterator[Bo
                 )
                 return
             number = min(offers, key=lambda it: (offers[it], it))
-            chosen[number] = desk.network.lines[number - 1].capacity
+            chosen[number] = desk.network.pipe(number).room(desk.flow(number))
             desk.cap(number, EXACT.add(chosen[number], left))
             desk.solve()
         # As much as flows there is enough.
         needed = {
-            number: flow for number, most in chosen.items() if (flow := desk.flow(number)) > most
+            number: flow
+            for number, most in chosen.items()
+            if (flow := magnitude(desk.flow(number))) > most
         }
         wider = {number: EXACT.subtract(flow, chosen[number]) for number, flow in needed.items()}
         desk.undo(desk.at - at)
@@ -270,7 +268,7 @@ def _seconds(desk: Desk, given: Prices, wanted: Quantity, way: Way) -> Iterator[
             )
             return
         number = min(gains, key=lambda it: (Decimal(offers[it]) / Decimal(gains[it]), it))
-        wider = (number, desk.network.lines[number - 1].capacity)
+        wider = (number, desk.network.pipe(number).room(desk.flow(number)))
         desk.double(number)
         desk.solve()
         total = EXACT.add(total, offers[number])

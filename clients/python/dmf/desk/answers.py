@@ -48,10 +48,12 @@ class FirstAnswer:
 
 
 class Limit(NamedTuple):
-    """The smallest minimum cut: the nodes on the source's side, and its arcs, in their order."""
+    """The smallest minimum cut: the nodes on the source's side, its arcs, in their order, and the
+    pipes that these are of. No pipe is there with both its ways."""
 
     side: set[int]
     arcs: dict[int, None]
+    pipes: dict[int, None]
 
 
 @dataclass
@@ -64,6 +66,8 @@ class Answers:
         The nodes on the source's side of the smallest minimum cut, if the first answer has them.
     promised
         The greatest value, while the flows that reach it are not known.
+    flows, net
+        The flow on each arc, and the net flow on each pipe.
     worth
         The greatest value without each arc.
     """
@@ -73,6 +77,7 @@ class Answers:
     is_greatest: bool | None = None
     limit: Limit | None = None
     flows: array[int] | None = None
+    net: Sequence[int] | None = None
     worth: ValuesWithout | None = None
 
     def find_limit(self, network: LiveNetwork) -> Limit:
@@ -84,6 +89,9 @@ class Answers:
             self.is_greatest = False
             raise
         side = network.told_side(inside)
-        self.limit = Limit(side, dict.fromkeys(network.leaving(side)))
+        arcs = dict.fromkeys(network.leaving(side))
+        pipes = network.pipes
+        found = dict.fromkeys(pipes.numbers(arcs)) if pipes.are_two_way else arcs
+        self.limit = Limit(side, arcs, found)
         self.is_greatest = True
         return self.limit

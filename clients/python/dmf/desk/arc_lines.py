@@ -86,6 +86,12 @@ class ArcLines(Sequence[DeskArc]):
         made = self._made
         return [made.get(number - 1) or self[number - 1] for number in numbers]
 
+    def first_of(self, number: int) -> int:
+        """Return the number that an arc had before it was opened again, or else its number."""
+        if number <= self._first_count:
+            return number
+        return self._added[number - 1 - self._first_count].first or number
+
     def ends_of(self, number: int) -> tuple[int, int]:
         """Return the ends of an arc, by their numbers."""
         if number > self._first_count:

@@ -10,11 +10,12 @@ from ..text.lexical import display
 from ..text.spelling import cleaned, folded, near, numbers_by_name, quoted_name
 from ..text.table_comments import Role, TableRoles, listed, role_phrase, role_words
 from .arc_lines import ArcLines
+from .pipes import Pipes
 from .steps import DeskFault, Node, Place
 
 MOST_LISTED = 6
 # The separators between the ends of an arc that is named by them, the longest first.
-ARROWS = (" -> ", "->", " - ", "-")
+ARROWS = (" <-> ", "<->", " -> ", "->", " - ", "-")
 
 
 class ArcNames(NamedTuple):
@@ -40,11 +41,12 @@ class Directory:
         self,
         node_names: Sequence[str],
         lines: ArcLines,
+        pipes: Pipes,
         nodes: Sequence[Node],
         folding: TableRoles,
     ) -> None:
         """Take as `lines` the arcs, of which there may be more later."""
-        self._lines = lines
+        self._lines, self._pipes = lines, pipes
         self._folding = folding
         self._has_roles = folding.has_roles
         # Whether a name that is only one without regard to case and accents means that one.
@@ -181,12 +183,12 @@ class Directory:
         key = self._lines.key(number)
         return key if isinstance(key, str) else ""
 
-    def ends(self, number: int) -> str:
-        tail, head = self._ends(number)
-        return f"{self.node(tail)} -> {self.node(head)}"
-
     def arc_names(self, number: int) -> ArcNames:
-        """Return all that an arc is called."""
+        """Return all that the pipe of an arc is called: `Mill <-> Town` if it leads both ways."""
+        arrow = " -> "
+        if self._pipes.are_two_way:
+            number = self._pipes.number(number)
+            arrow = " <-> " if self._pipes.is_two_way(number) else arrow
         tail, head, key = self._lines.ends_and_key(number)
         ends = (tail_label, head_label) = self._labels[tail - 1], self._labels[head - 1]
         role, place = None, tail
@@ -196,7 +198,7 @@ class Directory:
         if role:
             name = label = role_words(role, self.node)
         else:
-            label = " -> ".join(ends)
+            label = arrow.join(ends)
             label = f"{name}, {label}" if name else label
         return ArcNames(name, name or label, label, place, tail_label, head_label, role)
 
@@ -290,7 +292,7 @@ class Directory:
         )
 
     def arcs(self, text: str) -> list[int]:
-        """Return the arcs, open or closed, that a text names: by their name, by their ends, as in
+        """Return the pipes, open or closed, that a text names: by their name, by their ends, as in
         `Mill-Town` or `Mill Town`, or by their number, as in `#7`. Raise a `DeskFault` if there are
         none."""
         name = cleaned(text)
@@ -305,7 +307,7 @@ class Directory:
             )
         if not found:
             raise DeskFault(self._unknown_arc(name))
-        return sorted(found)
+        return sorted(self._pipes.numbers(found))
 
     def _splits(self, name: str) -> Iterator[tuple[str, str]]:
         """Yield the pairs of places whose names, with an arrow or a space between them, are this

@@ -8,13 +8,16 @@ from dataclasses import dataclass
 from pathlib import Path
 from typing import cast
 
+from ..quantity import magnitude
 from ..tables.other_columns import Extra
 from ..tables.table_writer import Told, WriterRow, plan_text
+from ..text.both_ways import of_pairs
 from ..text.drawing import Drawing, graphviz, picture
 from ..text.lexical import ARC, NODE, display
 from ..text.problem_text import ArcRecord, Problem, carrying
 from ..text.spelling import written
 from ..text.table_comments import renumbered, table_comments
+from .pipes import TwoWayPipe
 from .steps import DeskArc, DeskFault
 from .workspace import Desk
 
@@ -72,17 +75,18 @@ def table(desk: Desk) -> str:
     one more column of which plan it is. If the flow is not greatest, the column of the cut is
     empty."""
     network = desk.network
-    crossing = desk.cut_arcs() if desk.is_greatest else None
+    crossing = desk.limit().arcs if desk.is_greatest else None
+    flows = map(network.measure.quantity, desk.arc_flows())
     arcs = [
         WriterRow(
             number,
             line.tail,
             line.head,
             line.capacity,
-            desk.flow(number),
+            flow,
             None if crossing is None else number in crossing,
         )
-        for number, line in enumerate(network.lines, 1)
+        for (number, line), flow in zip(enumerate(network.lines, 1), flows)
         if not line.is_closed
     ]
     ends = network.source, network.sink
@@ -97,6 +101,7 @@ def table(desk: Desk) -> str:
         extra,
         lambda number: row_of(desk, number),
         network.limited(),
+        tuple(network.pipes.pairs(arc.number for arc in arcs)),
     )
     return plan_text(arcs, told, network.measure, raw_names=network.subject.raw_names)
 
@@ -132,6 +137,7 @@ def problem(desk: Desk) -> str:
     said = renumbered(
         network.subject.described,
         ((line.tail, line.head) for line in opened.values()),
+        of_pairs(network.pipes.pairs(opened)),
         network.limited(),
     )
     columns = network.subject.extra.comments(row_of(desk, number) for number in opened)
@@ -140,9 +146,13 @@ def problem(desk: Desk) -> str:
 
 
 def drawing(desk: Desk) -> Drawing:
-    """Return what a picture of the desk shows. An arc that was opened again is drawn once."""
+    """Return what a picture of the desk shows. An arc that was opened again is drawn once, and so
+    is a pipe that leads both ways, the way that it flows."""
     network = desk.network
-    numbers = [number for number, line in enumerate(network.lines, 1) if not line.is_replaced]
+    there = [number for number, line in enumerate(network.lines, 1) if not line.is_replaced]
+    numbers = network.pipes.numbers(there)
+    pipes = network.pipes.of(numbers)
+    amounts = desk.flows_on(numbers)
     names = network.names
     labels = {number: names.node(number) for number in range(1, len(names.nodes) + 1)}
     arc_names = {
@@ -159,11 +169,9 @@ def drawing(desk: Desk) -> Drawing:
         arc_names,
         network.subject.described,
     )
-    flows = [
-        None if network.lines[number - 1].is_closed else desk.flow(number) for number in numbers
-    ]
+    flows = [None if pipe.is_closed else magnitude(flow) for pipe, flow in zip(pipes, amounts)]
     side = desk.side() if desk.is_greatest else set()
-    lines = arcs_of([network.lines[number - 1] for number in numbers])
+    lines = arcs_of([pipe.way(flow) for pipe, flow in zip(pipes, amounts)])
     notes = [*said_of(desk), LEGEND] if desk.state.scenario else []
     return Drawing(
         drawn,
@@ -174,6 +182,11 @@ def drawing(desk: Desk) -> Drawing:
         notes,
         has_quantities=True,
         limited=network.limited(),
+        still={
+            place
+            for place, (pipe, flow) in enumerate(zip(pipes, amounts))
+            if isinstance(pipe, TwoWayPipe) and not flow
+        },
     )
 
 

@@ -7,7 +7,16 @@ import operator
 import re
 from collections.abc import Callable
 
-from ..quantity import EXACT, Measure, Quantity, QuantityFault, number_in, plain_text, readings
+from ..quantity import (
+    EXACT,
+    Measure,
+    Quantity,
+    QuantityFault,
+    magnitude,
+    number_in,
+    plain_text,
+    readings,
+)
 from ..text.spelling import folded, quoted_name
 from .steps import DeskFault
 from .workspace import Desk
@@ -68,14 +77,15 @@ Condition = Callable[[int], bool]
 
 
 def condition(desk: Desk, words: list[str]) -> Condition | None:
-    """Return a predicate on arcs: `full`, `limit`, `name ~ TEXT` (in any case; also of `from` and
-    `to`), or `capacity < NUMBER` (also of `flow`, and with `<=`, `=`, `>=`, `>`). Return None if
-    the words are not a condition. Raise a `DeskFault` if it cannot be decided."""
+    """Return a predicate on pipes: `full`, `limit`, `name ~ TEXT` (in any case; also of `from` and
+    `to`, each of which is either end of one that leads both ways), or `capacity < NUMBER` (also of
+    `flow`, and with `<=`, `=`, `>=`, `>`). Return None if the words are not a condition. Raise a
+    `DeskFault` if it cannot be decided."""
     network = desk.network
-    lines, quantity = network.lines, network.measure.quantity
+    pipe, quantity = network.pipes.pipe, network.measure.quantity
     if words == ["full"]:
         flows = desk.flows()
-        return lambda number: 0 < quantity(flows[number - 1]) == lines[number - 1].capacity
+        return lambda number: pipe(number).is_full(quantity(flows[number - 1]))
     if words == ["limit"]:
         if not desk.is_greatest:
             raise DeskFault("the flow is not greatest, so the limit is not known; `solve` first")
@@ -83,22 +93,21 @@ def condition(desk: Desk, words: list[str]) -> Condition | None:
     if len(words) < 3:
         return None
     what, sign, text = words[0], words[1], " ".join(words[2:])
-    node = network.names.node
-    names: dict[str, Callable[[int], str]] = {
-        "name": network.names.arc_name,
-        "from": lambda number: node(lines[number - 1].tail),
-        "to": lambda number: node(lines[number - 1].head),
+    names: dict[str, Callable[[int], list[str]]] = {
+        "name": lambda number: [network.names.arc_name(number)],
+        "from": network.tails,
+        "to": network.heads,
     }
     if what in names and sign == "~":
         sought = folded(text)
-        return lambda number: sought in folded(names[what](number))
+        return lambda number: any(sought in folded(name) for name in names[what](number))
     if what not in ("capacity", "flow") or sign not in COMPARED:
         return None
     is_so, bound = COMPARED[sign], amount(text, network.measure)
     if what == "capacity":
-        return lambda number: is_so(lines[number - 1].capacity, bound)
+        return lambda number: is_so(pipe(number).capacity, bound)
     flows = desk.flows()
-    return lambda number: is_so(quantity(flows[number - 1]), bound)
+    return lambda number: is_so(magnitude(quantity(flows[number - 1])), bound)
 
 
 def successors(desk: Desk) -> dict[int, int]:

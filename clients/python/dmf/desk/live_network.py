@@ -145,6 +145,10 @@ class LiveNetwork(NetworkArcs):
         elif isinstance(change, Add):
             ends = nodes[change.tail - 1], nodes[change.head - 1]
             network.add(*ends, self.measure.whole(change.capacity), change.name)
+            if change.is_back:
+                (made,) = network._kept.changes_after(network._kept.moment.place - 1)
+                self.ways_back[id(made)] = made
+                self.pipes.tie(len(self.lines))
         elif isinstance(change, Reopen):
             network.open(self.handle(change.arc))
         elif isinstance(change, Shut):
@@ -178,12 +182,16 @@ class LiveNetwork(NetworkArcs):
         """Return the handle of an arc in the session's network."""
         return self.network._kept.handle(number)
 
+    def node_of(self, number: int) -> Node:
+        """Return the node of the session's network that has this number."""
+        return self._nodes[number - 1]
+
     def leaving(self, side: Iterable[int]) -> list[int]:
         """Return the open arcs that lead out of a set of nodes, in their order."""
         return self.network._kept.numbers_leaving(sorted(side))
 
     def changed(self) -> set[int]:
-        """Return the arcs that differ from the problem's: closed, added, or of another capacity.
+        """Return the pipes that differ from the problem's: closed, added, or of another capacity.
         One that was closed and opened again does not differ."""
         kept = self.network._kept
         found = set()
@@ -193,7 +201,7 @@ class LiveNetwork(NetworkArcs):
             if not line.is_replaced and (
                 is_new or kept.first_capacity(first) != kept.capacities[number - 1]
             ):
-                found.add(number)
+                found.add(self.pipes.number(number))
         return found
 
     def first_capacity(self, number: int) -> Quantity | None:

@@ -23,6 +23,7 @@ from ..text.spelling import cleaned, names_in, naming_pieces, quoted_name
 from ..text.table_comments import Role, TableRoles
 from .arc_lines import ArcLines
 from .directory import Directory
+from .pipes import Pipe, Pipes, TwoWayPipe, amounts
 from .steps import Add, Cap, Change, DeskArc, DeskFault, Follow, Marks, Node, Reopen
 
 
@@ -39,13 +40,18 @@ class NetworkArcs:
         self._nodes = nodes
         self.folding = TableRoles(subject.described)
         self.lines = ArcLines(state.columns, state.capacities, self.measure)
-        self.names = Directory(_node_names(subject.text, nodes), self.lines, nodes, self.folding)
+        tied = self.folding.partners(state.columns.tails, state.columns.heads)
+        self.pipes = Pipes(self.lines, tied)
+        labels = _node_names(subject.text, nodes)
+        self.names = Directory(labels, self.lines, self.pipes, nodes, self.folding)
         # The nodes of the problem's source and sink, which may join several places.
         self.source, self.sink = state.number(state.source), state.number(state.sink)
         # The arcs of unlimited sources and sinks.
         self._at_first_unlimited = {
             number for number, role in subject.described.roles.items() if role.is_unlimited
         }
+        # The changes that added the way back of a pipe, by their identities.
+        self.ways_back: dict[int, session.Change] = {}
         # The number of the problem's arcs; those after them were added.
         self.first_count = len(self.lines)
         self.marks = Marks()
@@ -91,12 +97,67 @@ class NetworkArcs:
                 return self.lines[number - 1]
         raise DeskFault(f"arc #{number} does not exist")
 
-    def open_line(self, number: int) -> DeskArc:
-        """Return an open arc as it is. Raise a `DeskFault` if it is closed."""
+    def pipe(self, number: int) -> Pipe:
+        """Return a pipe as it is. Raise a `DeskFault` if no arc has this number."""
+        self.line(number)
+        return self.pipes.pipe(number)
+
+    def told_amounts(self, number: int, flow: Quantity) -> str:
+        """Return the flow on an open pipe and what it can carry, in words."""
+        pipe = self.pipes.pipe(number)
+        return amounts(pipe, flow, self.told_ends(pipe))
+
+    def told_ends(self, pipe: Pipe) -> tuple[str, str]:
+        """Return the names of the places at the ends of a pipe."""
+        return self.names.node(pipe.tail), self.names.node(pipe.head)
+
+    def tails(self, number: int) -> list[str]:
+        """Return the places that a pipe leads from: two if it leads both ways."""
+        lines = self.lines.of(self.pipes.arcs(number))
+        return [self.names.node(line.tail) for line in lines]
+
+    def heads(self, number: int) -> list[str]:
+        """Return the places that a pipe leads to."""
+        lines = self.lines.of(self.pipes.arcs(number))
+        return [self.names.node(line.head) for line in lines]
+
+    def told_room(self, number: int, flow: Quantity) -> str:
+        """Return what a pipe can carry the way that this flow goes: `50 to Town` if it can carry
+        something else the other way."""
+        pipe = self.pipes.pipe(number)
+        told = plain_text(pipe.room(flow))
+        if not isinstance(pipe, TwoWayPipe) or pipe.is_even:
+            return told
+        return f"{told} to {self.names.node(pipe.tail if flow < 0 else pipe.head)}"
+
+    def open_arcs(self, number: int) -> list[int]:
+        """Return the open arcs of the pipe that an arc is of. Raise a `DeskFault` if it is
+        closed."""
         line = self.line(number)
-        if line.is_closed:
+        opened = [] if line.is_closed else [number]
+        if self.pipes.are_two_way:
+            arcs = self.pipes.arcs(self.pipes.number(number))
+            opened = [arc for arc in arcs if not self.lines[arc - 1].is_closed]
+        if not opened:
             raise DeskFault(f"{self.names.arc(number)} is closed")
-        return line
+        return opened
+
+    def closed_arcs(self, number: int) -> list[int]:
+        """Return the closed arcs of the pipe that an arc is of. Raise a `DeskFault` if it is
+        open."""
+        self.line(number)
+        arcs = self.pipes.arcs(self.pipes.number(number))
+        lines = {arc: self.lines[arc - 1] for arc in arcs}
+        closed = [arc for arc, it in lines.items() if it.is_closed and not it.is_replaced]
+        if not closed:
+            raise DeskFault(f"{self.names.arc(number)} is open")
+        return closed
+
+    def second(self, number: int) -> list[Add]:
+        """Return the changes that put a second pipe beside an open one. Raise a `DeskFault` if it
+        is closed."""
+        lines = self.lines.of(self.open_arcs(number))
+        return [Add(*line[:3], is_back=at > 0) for at, line in enumerate(lines)]
 
     def opened(self) -> Iterator[tuple[int, DeskArc]]:
         """Yield the open arcs, with their numbers."""
@@ -116,14 +177,21 @@ class NetworkArcs:
         return found
 
     def pictured(self) -> list[int]:
-        """Return the arcs of the table and those that were added. One that was opened again counts
+        """Return the pipes of the table and those that were added. One that was opened again counts
         once."""
         found = [number for number, line in enumerate(self.lines, 1) if not line.is_replaced]
+        if self.pipes.are_two_way:
+            found = [number for number in found if not self.pipes.is_second(number)]
         return (
             [number for number in found if not self.role(number)]
             if self.folding.has_roles
             else found
         )
+
+    def opened_pipes(self) -> list[int]:
+        """Return those of them that are open."""
+        pipe = self.pipes.pipe
+        return [number for number in self.pictured() if not pipe(number).is_closed]
 
     def told_side(self, inside: Collection[int]) -> set[int]:
         """Return the side of a minimum cut in which no unlimited source or sink is, by the side of
@@ -146,14 +214,19 @@ class NetworkArcs:
         return self.measure.whole(self.lines[number - 1].capacity)
 
     def the_arc(self, text: str, *, is_closed: bool = False) -> int:
-        """Return the arc that a text means: the open one, or else the closed one. Raise a
+        """Return the pipe that a text means: the open one, or else the closed one. Raise a
         `DeskFault` if it means none, or several."""
         meant = self.names.arcs(text)
         found = [number for number in meant if not self.lines[number - 1].is_replaced]
         if not found:
             was, now = self.names.short(meant[0]), self._replacing(meant[0])
             raise DeskFault(f"{was} was closed as #{meant[0]} and opened again as #{now}")
-        fitting = [number for number in found if self.lines[number - 1].is_closed == is_closed]
+        pipes = {number: self.pipes.pipe(number) for number in found}
+        fitting = [
+            number
+            for number, it in pipes.items()
+            if (it.is_partly_closed if is_closed else not it.is_closed)
+        ]
         if len(fitting) == 1:
             return fitting[0]
         if fitting:
@@ -252,6 +325,8 @@ class NetworkArcs:
             arc, capacity, replaced = change.added
             if is_made and arc.number > len(self.lines):
                 self._put(arc, capacity, replaced)
+                if id(change) in self.ways_back:
+                    self.pipes.tie(arc.number)
             elif not is_made and arc.number <= len(self.lines):
                 self._drop(arc.number, replaced)
         for number, before, after in change.capacities:
@@ -270,6 +345,7 @@ class NetworkArcs:
         if replaced:
             was = self.lines[replaced - 1]
             line = was._replace(is_closed=False, was_shut=False, first=was.first or replaced)
+            self.pipes.put(arc.number, line.first)
         else:
             nodes = self.names.nodes
             line = DeskArc(nodes[arc.tail], nodes[arc.head], self.measure.quantity(capacity))
@@ -282,6 +358,7 @@ class NetworkArcs:
     def _drop(self, number: int, replaced: int | None) -> None:
         """Drop the line of the last arc."""
         self.names.drop(number)
+        self.pipes.drop(number, replaced)
         self.lines.pop()
         if replaced:
             self.names.put(replaced)

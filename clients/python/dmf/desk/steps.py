@@ -47,6 +47,22 @@ class DeskArc(NamedTuple):
         """Return True if it is closed because a place was shut."""
         return self.was_shut and not self.is_replaced
 
+    @property
+    def is_partly_closed(self) -> bool:
+        return self.is_closed
+
+    def room(self, flow: Quantity) -> Quantity:
+        """Return what it can carry the way that this flow goes."""
+        return self.capacity
+
+    def way(self, flow: Quantity) -> DeskArc:
+        """Return the arc that this flow goes over."""
+        return self
+
+    def is_full(self, flow: Quantity) -> bool:
+        """Return True if this flow fills it."""
+        return 0 < flow == self.capacity
+
 
 class Marks(NamedTuple):
     """What the network itself does not know: the nodes that are shut, and the unlimited sources and
@@ -87,10 +103,13 @@ class Reopen(ArcChange):
 
 @dataclass(frozen=True)
 class Add:
+    """An arc is added; `is_back` if it is the way back of the one that was added before it."""
+
     tail: int
     head: int
     capacity: Quantity
     name: str | None = None
+    is_back: bool = False
 
 
 @dataclass(frozen=True)

@@ -19,6 +19,7 @@ import copy
 from array import array
 from collections.abc import Iterable, Iterator, Mapping, Sequence
 from dataclasses import replace
+from itertools import chain
 
 from ..errors import CapacitiesPast64Bits, FlowIsNotGreatest
 from ..quantity import Quantity, plain_text
@@ -28,6 +29,7 @@ from ..text.spelling import quoted_name
 from .answers import Answers, FirstAnswer, Limit
 from .desk_state import DeskState, Keeper
 from .live_network import LiveNetwork
+from .pipes import TwoWayPipe
 from .running_networks import RunningNetworks
 from .scale import finer, past_64_bits
 from .steps import Add, Cap, Change, Close, DeskFault, Place, Reopen, Shut, Solve, Step
@@ -242,14 +244,14 @@ class Desk:
         return answers.limit or answers.find_limit(self.network)
 
     def cut_arcs(self) -> dict[int, None]:
-        """Return the arcs of the limit, in their order. Raise `FlowIsNotGreatest`."""
-        return self.limit().arcs
+        """Return the pipes of the limit, in their order. Raise `FlowIsNotGreatest`."""
+        return self.limit().pipes
 
     def side(self) -> set[int]:
         """Return the nodes on the source's side of the cut. Raise `FlowIsNotGreatest`."""
         return self.limit().side
 
-    def flows(self) -> array[int]:
+    def arc_flows(self) -> array[int]:
         """Return the flow on each arc, in the whole numbers of the session: that on arc 1 first,
         and 0 on a closed one."""
         self.follow()
@@ -258,19 +260,32 @@ class Desk:
             answers.flows = self.network.flows()
         return answers.flows
 
+    def flows(self) -> Sequence[int]:
+        """Return the same, with the net flow on a pipe that leads both ways: below 0 if it goes
+        back. At the second of its arcs it is that of the first, the other way round."""
+        flows, answers, pipes = self.arc_flows(), self.state.answers, self.state.network.pipes
+        if answers.net is None:
+            answers.net = pipes.net(flows) if pipes.are_two_way else flows
+        return answers.net
+
     def flow(self, number: int) -> Quantity:
-        """Return the flow on an arc, which is 0 if it is closed. Raise a `DeskFault` if the arc
+        """Return the flow on a pipe, which is 0 if it is closed. Raise a `DeskFault` if the arc
         does not exist."""
         self.network.line(number)
         return self.flows_on([number])[0]
 
     def flows_on(self, numbers: Sequence[int]) -> list[Quantity]:
-        """Return the flow on each of these arcs."""
+        """Return the flow on each of these pipes."""
         network, answers = self.network, self.state.answers
         limit = self.limit() if answers.promised is not None else answers.limit
-        if limit and limit.arcs.keys() >= {*numbers}:
-            # Each maximum flow fills the arcs of a minimum cut.
-            return [line.capacity for line in network.lines.of(numbers)]
+        if limit and limit.pipes.keys() >= {*numbers}:
+            # Each maximum flow fills the arcs of a minimum cut, and nothing flows back over it.
+            return [
+                -pipe.back.capacity
+                if isinstance(pipe, TwoWayPipe) and number not in limit.arcs
+                else pipe.capacity
+                for number, pipe in zip(numbers, network.pipes.of(numbers))
+            ]
         flows, quantity = self.flows(), network.measure.quantity
         return [quantity(flows[number - 1]) for number in numbers]
 
@@ -281,33 +296,30 @@ class Desk:
         return self.step("solve", [Solve()])
 
     def close(self, *numbers: int, words: str = "") -> Step:
-        """Close arcs, in one step of these words."""
+        """Close pipes, in one step of these words."""
         network = self.network
-        for number in numbers:
-            network.open_line(number)
-        return self.step(
-            f"close {words or network.names.short(numbers[0])}",
-            [Close(number) for number in numbers],
-        )
+        arcs = dict.fromkeys(chain.from_iterable(map(network.open_arcs, numbers)))
+        return self.step(f"close {words or network.names.short(numbers[0])}", [*map(Close, arcs)])
 
     def cap(self, number: int, capacity: Quantity) -> Step:
-        """Give an arc another capacity."""
+        """Give a pipe another capacity, both ways if it leads both ways."""
         return self.cap_each({number: capacity})
 
     def cap_each(self, capacities: Mapping[int, Quantity], words: str = "") -> Step:
-        """Give arcs other capacities, in one step of these words."""
-        for number in capacities:
-            self.network.open_line(number)
+        """Give pipes other capacities, in one step of these words."""
+        arcs = {number: self.network.open_arcs(number) for number in capacities}
         with self._fine_for(capacities.values()) as state:
             network = state.network
             taken = {number: network.taken(capacity) for number, capacity in capacities.items()}
             phrase = network.names.phrase
             words = words or " and ".join(
-                f"{phrase(number)} {network.told(capacity)}" for number, capacity in taken.items()
+                f"{phrase(number)} {network.told(capacity)}{' each way' * (len(arcs[number]) > 1)}"
+                for number, capacity in taken.items()
             )
-            return self.step(
-                words, [Cap(number, capacity) for number, capacity in taken.items()], state
-            )
+            changes = [
+                Cap(arc, capacity) for number, capacity in taken.items() for arc in arcs[number]
+            ]
+            return self.step(words, changes, state)
 
     def add(self, tail: Place, head: Place, capacity: Quantity, name: str = "") -> Step:
         """Add an arc."""
@@ -319,11 +331,9 @@ class Desk:
             return self.step(text, [Add(tail.exit, head.entry, taken, name or None)], state)
 
     def double(self, *numbers: int, words: str = "") -> Step:
-        """Add a second arc beside each of these open ones, of the same capacity."""
+        """Add a second pipe beside each of these open ones, of the same capacity."""
         network = self.network
-        added: list[Change] = [
-            Add(line.tail, line.head, line.capacity) for line in map(network.open_line, numbers)
-        ]
+        added: list[Change] = [add for number in numbers for add in network.second(number)]
         return self.step(f"a second one beside {words or network.names.short(numbers[0])}", added)
 
     def shut(self, place: Place) -> Step:
@@ -339,17 +349,11 @@ class Desk:
         )
 
     def open(self, *numbers: int, words: str = "") -> Step:
-        """Open closed arcs, with the capacities that they had, in one step of these words. To the
+        """Open closed pipes, with the capacities that they had, in one step of these words. To the
         network they are new arcs with new numbers."""
         network = self.network
-        for number in numbers:
-            line = network.line(number)
-            if not line.is_closed or line.is_replaced:
-                raise DeskFault(f"{network.names.arc(number)} is open")
-        return self.step(
-            f"open {words or network.names.short(numbers[0])}",
-            [Reopen(number) for number in numbers],
-        )
+        arcs = dict.fromkeys(chain.from_iterable(map(network.closed_arcs, numbers)))
+        return self.step(f"open {words or network.names.short(numbers[0])}", [*map(Reopen, arcs)])
 
     def open_place(self, place: Place) -> Step:
         """Open the arcs that shutting a place closed, except those to other shut places."""

@@ -17,7 +17,7 @@ from .workspace import Desk
 
 
 class Loss(NamedTuple):
-    """The greatest value without an arc, and what is lost then."""
+    """The greatest value without a pipe, and what is lost then."""
 
     arc: int
     left: Quantity
@@ -41,27 +41,37 @@ def worth_of(desk: Desk) -> ValuesWithout:
     return answers.worth
 
 
+def left_without(desk: Desk, worth: ValuesWithout, number: int) -> int:
+    """Return what is left without a pipe, in the whole numbers of the session.
+
+    The greatest value is a concave function of what flows forward on the two arcs of a pipe, less
+    what flows back. Without one of them it is the greatest at 0 and on one side of 0; so at 0,
+    which is without both, it is the lesser of these.
+    """
+    return min(worth.without[arc - 1] for arc in desk.network.pipes.arcs(number))
+
+
 def losses(desk: Desk, numbers: Iterable[int]) -> list[Loss]:
-    """Return what is lost without each of these arcs alone. Raise a `DeskFault` unless the flow is
+    """Return what is lost without each of these pipes alone. Raise a `DeskFault` unless the flow is
     greatest."""
     judge_greatest(desk)
     worth, quantity = worth_of(desk), desk.network.measure.quantity
     return [
         Loss(number, quantity(left), quantity(worth.value - left))
-        for number, left in ((number, worth.without[number - 1]) for number in numbers)
+        for number, left in ((number, left_without(desk, worth, number)) for number in numbers)
     ]
 
 
 def worst(desk: Desk, most: int) -> tuple[list[Loss], int]:
-    """Return the `most` arcs of the table whose loss is greatest, with what each loses, and how
-    many other arcs have a loss. Raise a `DeskFault` unless the flow is greatest."""
+    """Return the `most` pipes of the table whose loss is greatest, with what each loses, and how
+    many other pipes have a loss. Raise a `DeskFault` unless the flow is greatest."""
     costly = [it for it in losses(desk, desk.network.pictured()) if it.loss]
     found = nsmallest(most, costly, key=lambda it: (it.left, it.arc))
     return found, len(costly) - len(found)
 
 
 def left_without_all(desk: Desk, numbers: Sequence[int]) -> Quantity:
-    """Return the greatest value if all these open arcs are closed at once. They are closed on a
+    """Return the greatest value if all these open pipes are closed at once. They are closed on a
     desk beside this one, which solves."""
     with desk.aside() as other:
         other.close(*numbers)

@@ -78,11 +78,11 @@ class _Each(Iterator[Case]):
         return self._left
 
 
-class _EachClosed(_Each):
-    """Cases that each close one of these arcs."""
+class EachClosed(_Each):
+    """Cases that each close one of these pipes, which are one arc or two: the two ways of it."""
 
-    def __init__(self, arcs: Iterable[Hashable]) -> None:
-        super().__init__(lambda arc: [("close", arc)], arcs)
+    def __init__(self, pipes: Iterable[Any]) -> None:
+        super().__init__(lambda arcs: [("close", arc) for arc in arcs], pipes)
 
 
 def each_arc_closed(
@@ -102,7 +102,9 @@ def each_arc_closed(
     ...     [result.difference for result in sweep(network, each_arc_closed())]
     [-2, -2]
     """
-    return lambda network: _EachClosed(network.arcs if arcs is None else arcs)
+    return lambda network: EachClosed(
+        _Each(lambda arc: [arc], network.arcs if arcs is None else arcs)
+    )
 
 
 def each_node_shut(
@@ -281,7 +283,7 @@ def sweep(
         begin = functools.partial(
             ExecutorPool, RemoteCopy.of(swept.kept, named, anew, swept.kind), executor, want_cut
         )
-    elif not want_cut and isinstance(made, _EachClosed):
+    elif not want_cut and isinstance(made, EachClosed):
         if is_worthwhile(count, swept.kept.open_count):
             begin = functools.partial(ClosedArcs.begun, swept.kept, named, begin)
     results = _results(swept, iter(made), begin)

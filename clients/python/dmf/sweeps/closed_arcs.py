@@ -26,8 +26,11 @@ def is_worthwhile(count: int, arc_count: int) -> bool:
 
 
 class ClosedArcs(Tries):
-    """Cases that each close one arc of a network, and the values without its arcs. Cases that may
-    be refused, such as closing a closed arc, are tried by others."""
+    """Cases that each close one arc of a network, or two that lead there and back, and the values
+    without its arcs. Cases that may be refused, such as closing a closed arc, are tried by others.
+
+    Without two arcs that lead there and back the lesser of their two values is left: the greatest
+    value is a concave function of what flows there, less what flows back."""
 
     first = MOST_AT_ONCE
 
@@ -35,7 +38,7 @@ class ClosedArcs(Tries):
         self, kept: NetworkState[Any], without: array[int], begin_others: Callable[[], Tries]
     ) -> None:
         super().__init__(1)
-        self._closed = kept.closed
+        self._kept = kept
         self._without = without
         self._begin_others = begin_others
         self._others: Tries | None = None
@@ -52,19 +55,26 @@ class ClosedArcs(Tries):
         return cls(kept, found.without, begin_others)
 
     def begin(self, cases: list[Plain | Error]) -> Pending:
-        numbers = [self._open_arc(case) for case in cases]
-        if all(numbers):
-            return lambda: [CaseAnswer(self._without[number - 1]) for number in numbers]
+        arcs = [self._open_arcs(case) for case in cases]
+        if all(arcs):
+            without = self._without
+            return lambda: [CaseAnswer(min(without[it - 1] for it in numbers)) for numbers in arcs]
         if self._others is None:
             self._others = self._begin_others()
         return self._others.begin(cases)
 
-    def _open_arc(self, case: Plain | Error) -> int:
-        """Return the open arc that a case closes, or 0."""
+    def _open_arcs(self, case: Plain | Error) -> list[int]:
+        """Return the open arcs that a case closes, if there is one, or two that lead there and
+        back."""
         if not isinstance(case, list):
-            return 0
-        ((_, number),) = case
-        return 0 if number in self._closed else int(number)
+            return []
+        numbers = [int(number) for _, number in case]
+        if any(number in self._kept.closed for number in numbers):
+            return []
+        if len(numbers) == 2 and numbers[0] != numbers[1]:
+            there, back = map(self._kept.handle, numbers)
+            return numbers if (there.tail, there.head) == (back.head, back.tail) else []
+        return numbers if len(numbers) == 1 else []
 
     def close(self) -> None:
         if self._others is not None:

@@ -25,6 +25,7 @@ from typing import Any, Optional
 from ..errors import TableFault
 from ..quantity import COMMA, LARGEST, Measure, QuantityFault, decimals, number_in, plain_text
 from ..session.base import numpy_for
+from ..text.both_ways import TwoWayArcs
 from ..text.lexical import AMOUNTS, NODES
 from ..text.spelling import cleaned, near, quoted_name
 from ..text.table_comments import SINKS, SOURCES, Role, TableComments, table_comments
@@ -340,10 +341,14 @@ class _Maker:
             )
         if len(self.node_names) > MOST_NODES or len(self.tails) > MOST_ARCS:
             raise TableFault(f"more than {MOST_NODES} nodes or {MOST_ARCS} arcs")
-        described = TableComments(self.measure, self.joints, self.halves, self.roles)
-        place_count = len(self.plan.arcs.places)
+        table = self.plan.arcs
+        tied = TwoWayArcs(((1, 2, len(table.tails)),) * bool(self.plan.both_ways and table.tails))
+        described = TableComments(
+            self.measure, self.joints, self.halves, self.roles, tied or table.both_ways
+        )
+        place_count = len(table.places)
         columns = self.tails, self.heads, self.capacities
-        names = self.plan.arcs.labels, 1 + self.plan.both_ways, self.inner_names
+        names = table.labels, 1 + self.plan.both_ways, self.inner_names
         return BuiltProblem(
             self.node_names, *columns, *names, described, source, sink, place_count, row_count
         )

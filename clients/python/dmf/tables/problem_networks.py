@@ -142,7 +142,7 @@ def network_of_problem(problem: Opened, said: TableComments) -> TableNetwork:
     from .table_network import TableNetwork
 
     said = (
-        renumbered(said, zip(problem.tails, problem.heads))
+        renumbered(said, zip(problem.tails, problem.heads), said.both_ways)
         if said.joints or said.halves
         else replace(said, roles={})
     )

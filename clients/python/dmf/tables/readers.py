@@ -12,6 +12,7 @@ from itertools import count, islice
 from typing import Any, NamedTuple, Union
 
 from ..errors import TableFault
+from ..text.both_ways import TwoWayArcs
 from ..text.lexical import NODES
 from ..text.spelling import cleaned, quoted_name
 from .amount_columns import Amounts
@@ -139,7 +140,8 @@ class Table:
     has for each name that the table also writes with other spaces one of these other ways. `is_raw`
     says that no apostrophe protects a name. `others` are the columns that are read for nothing and
     have something, if there are no titles. `states` has what each row is, by the column that says
-    it; `unlimited` are the rows whose capacity is missing and was read as without a limit."""
+    it; `unlimited` are the rows whose capacity is missing and was read as without a limit; and
+    `both_ways` are those that were one row, there and back."""
 
     sheet: Sheet
     layout: Layout
@@ -158,6 +160,7 @@ class Table:
     notes: list[str] = field(default_factory=list)
     states: dict[str, list[str]] = field(default_factory=dict)
     unlimited: Sequence[int] = ()
+    both_ways: TwoWayArcs = TwoWayArcs()
 
     @property
     def path(self) -> str:

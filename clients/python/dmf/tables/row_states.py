@@ -7,6 +7,7 @@ from __future__ import annotations
 from array import array
 from collections.abc import Iterator, Mapping, Sequence
 
+from ..text.both_ways import of_pairs
 from ..text.lexical import NODES
 from ..text.spelling import MOST_TOLD, cleaned, quoted_name
 from .headings import STATES, Layout
@@ -72,7 +73,7 @@ def told_states(
         for state, said in (
             (CLOSED, "closed, and carry nothing"),
             (BACKWARD, "turned, and lead backward"),
-            (BOTH, "read as two arcs each"),
+            (BOTH, "read as leading both ways"),
         ):
             of = [line for line, it in zip(lines, found) if it == state]
             if of:
@@ -127,3 +128,6 @@ def _turn(table: Table, ways: Sequence[str]) -> None:
     table.labels = [table.labels[row] for row in rows] if table.labels else ()
     unlimited = {*table.unlimited}
     table.unlimited = [at for at, row in enumerate(rows) if row in unlimited]
+    table.both_ways = of_pairs(
+        (at, at + 1) for at, (row, after) in enumerate(zip(rows, rows[1:]), 1) if row == after
+    )

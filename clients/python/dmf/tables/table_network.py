@@ -173,7 +173,8 @@ class TableNetwork(ScaledNetwork[str]):
         opened, columns = self._kept.opened(), self._columns
         places = {number: place for place, number in enumerate(opened.numbers(), 1)}
         roles = {places[number]: role for number, role in self._roles.items() if number in places}
-        before = table_comments(replace(columns.described, roles=roles))
+        tied = columns.described.both_ways.among(map(self._row, places))
+        before = table_comments(replace(columns.described, roles=roles, both_ways=tied))
         if names:
             labels = enumerate(
                 (node.name if isinstance(node, InnerNode) else node for node in columns.numbers), 1

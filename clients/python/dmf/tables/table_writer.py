@@ -6,22 +6,25 @@ each place gives, takes or lets through, as the readers of tables read it."""
 from __future__ import annotations
 
 from collections import Counter, defaultdict
-from collections.abc import Callable, Collection, Iterable, Iterator, Sequence
+from collections.abc import Callable, Collection, Iterator, Sequence
 from dataclasses import dataclass, replace
 from typing import NamedTuple
 
-from ..quantity import Measure, Quantity
+from ..quantity import EXACT, Measure, Quantity, magnitude
 from ..text.spelling import cleaned
 from ..text.table_comments import DEMAND, LIMIT, SUPPLY, TableRoles
 from .other_columns import Extra
 from .problem_builder import ends_alone
 from .sheet import OPEN_NUMBER, UNLIMITED, cell_of, lines, number_cell, text_cell
 
+# The title of the column that says which arcs lead both ways.
+BOTH_WAYS = "both ways"
+
 
 class ArcRow(NamedTuple):
     """An arc of a plan: its number, its name, which may be empty, its ends, its flow, its capacity,
-    and whether it is in the cut, which is None if that is not known; and the cells of the other
-    columns."""
+    and whether it is in the cut, which is None if that is not known; the cells of the other
+    columns; and whether it leads both ways. Its flow is below 0 then if it goes back."""
 
     number: int
     name: str
@@ -31,6 +34,7 @@ class ArcRow(NamedTuple):
     capacity: Quantity
     is_in_cut: bool | None
     others: Sequence[str] = ()
+    is_two_way: bool = False
 
 
 class PlaceRow(NamedTuple):
@@ -48,7 +52,7 @@ class PlaceRow(NamedTuple):
 
 
 def plan_table(
-    rows: Iterable[ArcRow],
+    rows: Sequence[ArcRow],
     measure: Measure,
     *,
     raw_names: bool,
@@ -56,21 +60,25 @@ def plan_table(
     others: Sequence[str] = (),
 ) -> str:
     """Return the table of a plan, whose titles tell its unit: the arcs, and below them the places
-    with what each gives, takes or lets through, for which there are further columns then. `others`
-    are the titles of the other columns. `raw_names` says that names stand in it as they are."""
+    with what each gives, takes or lets through, for which there are further columns then. One more
+    column says which arcs lead both ways, if some do. `others` are the titles of the other columns.
+    `raw_names` says that names stand in it as they are."""
     kinds = [
         kind for kind in ("supply", "demand", "limit") if any(row.kind == kind for row in places)
     ]
 
+    ways = [BOTH_WAYS] * any(row.is_two_way for row in rows)
+
     def cells(row: ArcRow) -> list[object]:
         names = [cell_of(name, is_raw=raw_names) for name in (row.name, row.tail, row.head)]
         amounts = [number_cell(row.flow, measure), amount_cell(row.capacity, measure)]
-        told = [_yes(row.flow == row.capacity), _yes(row.is_in_cut)]
+        told = [_yes(magnitude(row.flow) == row.capacity), _yes(row.is_in_cut)]
         return [
             row.number,
             *names,
             *amounts,
             *told,
+            *[_yes(row.is_two_way)] * len(ways),
             *[""] * len(kinds),
             *(text_cell(text, is_raw=raw_names) for text in row.others),
         ]
@@ -90,6 +98,7 @@ def plan_table(
             "",
             _yes(full),
             _yes(row.is_in_cut),
+            *[""] * len(ways),
             *mosts,
             *[""] * len(others),
         ]
@@ -103,6 +112,7 @@ def plan_table(
         measure.title("capacity"),
         "full",
         "in cut",
+        *ways,
     ]
     titles += [
         *map(measure.title, kinds),
@@ -141,8 +151,8 @@ class WriterRow(NamedTuple):
 @dataclass(frozen=True)
 class Told:
     """How a network is written: the roles of its nodes and arcs, the names of a node and of an arc,
-    the nodes of its source and its sink, the row of an arc, the other columns, and the places
-    without a limit that were given one."""
+    the nodes of its source and its sink, the row of an arc, the other columns, the places without a
+    limit that were given one, and the pairs of arcs, by their places, that are one pipe."""
 
     folding: TableRoles
     node: Callable[[int], str]
@@ -151,13 +161,14 @@ class Told:
     extra: Extra = Extra()
     row: Callable[[int], int] = int
     limited: Collection[int] = ()
+    both_ways: Collection[tuple[int, int]] = ()
 
 
 def plan_text(arcs: Sequence[WriterRow], told: Told, measure: Measure, *, raw_names: bool) -> str:
     """Return the table of the open arcs of a plan. Where these alone tell which places are the
     source and the sink, and no place has more to be told, there are no rows of places."""
     told = replace(told, node=_told_apart(arcs, told))
-    rows, places = _arc_rows(arcs, told), _place_rows(arcs, told)
+    rows, places = [*_arc_rows(arcs, told)], _place_rows(arcs, told)
     return plan_table(rows, measure, raw_names=raw_names, places=places, others=told.extra.titles)
 
 
@@ -184,19 +195,29 @@ def _told_apart(arcs: Sequence[WriterRow], told: Told) -> Callable[[int], str]:
 
 
 def _arc_rows(arcs: Sequence[WriterRow], told: Told) -> Iterator[ArcRow]:
-    for arc in arcs:
-        if not told.folding.role(arc.tail, arc.head):
-            ends = told.node(arc.tail), told.node(arc.head)
-            others = told.extra.of(told.row(arc.number))
-            yield ArcRow(
-                arc.number,
-                told.arc(arc.number),
-                *ends,
-                arc.flow,
-                arc.capacity,
-                arc.is_in_cut,
-                others,
-            )
+    """Yield the rows of arcs. A pipe that leads both ways is one, if it can carry the same each
+    way."""
+    tied = {there: back for there, back in told.both_ways}
+    backs = {there: arcs[back - 1] for there, back in tied.items()}
+    backs = {there: it for there, it in backs.items() if it.capacity == arcs[there - 1].capacity}
+    second = {tied[there] for there in backs}
+    for place, arc in enumerate(arcs, 1):
+        if told.folding.role(arc.tail, arc.head) or place in second:
+            continue
+        back, flow, is_in_cut = backs.get(place), arc.flow, arc.is_in_cut
+        if back:
+            flow, is_in_cut = EXACT.subtract(flow, back.flow), is_in_cut or back.is_in_cut
+        yield ArcRow(
+            arc.number,
+            told.arc(arc.number),
+            told.node(arc.tail),
+            told.node(arc.head),
+            flow,
+            arc.capacity,
+            is_in_cut,
+            told.extra.of(told.row(arc.number)),
+            bool(back),
+        )
 
 
 def _place_rows(arcs: Sequence[WriterRow], told: Told) -> list[PlaceRow]:

@@ -36,6 +36,8 @@ class Drawing:
     has_quantities: bool = False
     # The places of the sources and sinks that had no limit in the table and were given one.
     limited: Collection[int] = ()
+    # The positions of the arcs that point nowhere: nothing flows there, and it might either way.
+    still: Collection[int] = ()
 
     def __post_init__(self) -> None:
         opened = (arc[:3] for arc in self.arcs if not arc.is_closed)
@@ -216,6 +218,8 @@ def arc_line(drawing: Drawing, place: int) -> str:
     color = CUT if drawing.is_cut(arc) else UNUSED if flow == 0 or arc.is_closed else None
     if color:
         looks["color"] = looks["fontcolor"] = quoted(color)
+    if place in drawing.still:
+        looks["dir"] = "none"
     tail, head = drawing.ends(place)
     return drawn_line(f"{tail} -> {head}", looks)
 

@@ -11,7 +11,7 @@ from collections.abc import Callable, Iterator, Sequence
 from decimal import Decimal
 from typing import Any, Protocol
 
-from ..quantity import Measure, Quantity, plain_text
+from ..quantity import Measure, Quantity, magnitude, plain_text
 from .lexical import display
 from .problem_text import ArcRecord
 from .session_replies import ChangedReply, CutReply, Event, FlowReply, PrintedReply, SolutionReply
@@ -27,8 +27,10 @@ def event_line(event: str, said: Json) -> str:
 
 
 def event_number(amount: Quantity, measure: Measure) -> Json:
-    """Return an amount as the table shows it and as the program has it."""
-    return {"told": plain_text(amount), "raw": measure.whole(amount)}
+    """Return an amount as the table shows it and as the program has it. It is below 0 if it flows
+    the other way."""
+    raw = measure.whole(magnitude(amount))
+    return {"told": plain_text(amount), "raw": -raw if amount < 0 else raw}
 
 
 def ends(role: Role | None, tail: int, head: int, node: Callable[[int], str]) -> Json:

@@ -10,11 +10,14 @@
     c inner arc ARC supply PLACE
     c inner arc ARC demand PLACE unlimited
     c inner arc ARC limit PLACE
+    c both ways ARC ARC
+    c both ways ARC to ARC
 
 The table does not have the inner nodes and arcs. An inner node joins several sources or sinks, or
 is the second half of a place with a limit. An inner arc carries what a source gives, what a sink
 takes, or what a place lets through. Nodes and arcs are given by number, and a place by the number
-of its node. An unlimited arc can carry as much as the arcs at its place.
+of its node. An unlimited arc can carry as much as the arcs at its place. Two arcs that are the two
+ways of one pipe are tied (`both_ways`).
 
 Each comment stands before the problem line, at the beginning of its line, with one blank between
 its words; only the scale may stand anywhere. If two comments say the same thing, the first counts.
@@ -24,11 +27,14 @@ its words; only the scale may stand anywhere. If two comments say the same thing
 from __future__ import annotations
 
 import re
-from collections.abc import Callable, Collection, Iterable, Iterator, Mapping
+from array import array
+from collections.abc import Callable, Collection, Iterable, Iterator, Mapping, Sequence
 from dataclasses import dataclass, field, replace
 from decimal import Decimal
 
 from ..quantity import SIGNS, Measure, Quantity
+from . import both_ways as ways
+from .both_ways import TwoWayArcs
 
 SOURCES, SINKS = "sources", "sinks"
 SUPPLY, DEMAND, LIMIT = "supply", "demand", "limit"
@@ -72,12 +78,13 @@ class TableComments:
     """How the whole numbers of a problem stand for quantities, and which nodes and arcs its table
     does not have. `joints` gives the number of a joining node, with `sources` or `sinks`; `halves`
     the number of each second half, with that of the first; `roles` the number of an inner arc, with
-    its role."""
+    its role; `both_ways` the arcs that are the two ways of one pipe."""
 
     measure: Measure = Measure()
     joints: Mapping[int, str] = field(default_factory=dict)
     halves: Mapping[int, int] = field(default_factory=dict)
     roles: Mapping[int, Role] = field(default_factory=dict)
+    both_ways: TwoWayArcs = TwoWayArcs()
 
     def within(self, nodes: int, arcs: int) -> TableComments:
         """Return the comments about nodes 1 to `nodes` and arcs 1 to `arcs` alone."""
@@ -94,6 +101,7 @@ class TableComments:
                 for number, role in self.roles.items()
                 if 1 <= number <= arcs and are_nodes(role.node)
             },
+            self.both_ways.within(arcs),
         )
 
 
@@ -119,7 +127,8 @@ def described(text: bytes) -> TableComments:
             halves.setdefault(int(node), int(first))
         else:
             roles.setdefault(int(arc), Role(kind, int(place), bool(unlimited)))
-    return TableComments(measure, joints, halves, roles)
+    tied = ways.in_comments(between(head, ways.WORDS.encode()).decode(errors="replace"))
+    return TableComments(measure, joints, halves, roles, tied)
 
 
 def tells_columns(text: bytes) -> bool:
@@ -176,6 +185,7 @@ def _lines(described: TableComments) -> Iterable[str]:
     )
     for number, role in described.roles.items():
         yield f"{INNER_WORDS}arc {number} {role.kind} {role.node}{' unlimited' * role.is_unlimited}"
+    yield from described.both_ways.comments()
 
 
 def _written(text: str) -> str:
@@ -198,6 +208,7 @@ class TableRoles:
 
     def __init__(self, described: TableComments) -> None:
         self._joints = described.joints
+        self._both_ways, self._inner = described.both_ways, described.roles
         self._first = described.halves
         self._second = {first: second for second, first in described.halves.items()}
         self._at_joints: dict[int, list[int]] = {joint: [] for joint in described.joints}
@@ -255,6 +266,11 @@ class TableRoles:
             )
             return Role(kind, node, (kind, node) in self._unlimited)
         return Role(LIMIT, tail) if self._first.get(head) == tail and tail != head else None
+
+    def partners(self, tails: Sequence[int], heads: Sequence[int]) -> array[int]:
+        """Return for each arc of the problem, by its number, the other way of its pipe, or 0;
+        nothing if no pipe leads both ways."""
+        return ways.partners(self._both_ways, tails, heads, self._inner, self.place)
 
     def at_role(self, role: Role, tail: int, head: int) -> bool:
         """Return True if an arc of the table with these ends carries what the place in a role gives
@@ -319,17 +335,20 @@ def role_phrase(role: Role, label: Callable[[int], str]) -> str:
 
 
 def renumbered(
-    described: TableComments, ends: Iterable[tuple[int, int]], limited: Collection[int] = ()
+    described: TableComments,
+    ends: Iterable[tuple[int, int]],
+    both_ways: TwoWayArcs,
+    limited: Collection[int] = (),
 ) -> TableComments:
-    """Return the same description for a problem with other arcs, which have these ends, after the
-    sources and sinks at `limited` were given limits."""
+    """Return the same description for a problem with other arcs, which have these ends, and of
+    which some are tied, after the sources and sinks at `limited` were given limits."""
     if not described.joints and not described.halves:
-        return described
+        return replace(described, both_ways=both_ways)
     roles = {
         number: replace(role, is_unlimited=role.is_unlimited and role.node not in limited)
         for number, role in TableRoles(described).roles(ends)
     }
-    return TableComments(described.measure, described.joints, described.halves, roles)
+    return replace(described, roles=roles, both_ways=both_ways)
 
 
 def listed(names: Iterable[str], most: int = MOST_ENDS) -> str:

@@ -116,9 +116,9 @@ class AnswerNames:
     def comments(self, printed: PrintedReply) -> Iterator[str]:
         """Yield the comments that describe a printed problem's table and its columns, and its
         names, with the numbers that the arcs have there."""
-        yield from table_comments(
-            renumbered(self.described, (arc[:2] for arc in printed.problem.arcs))
-        ).splitlines()
+        ends = (arc[:2] for arc in printed.problem.arcs)
+        tied = self.described.both_ways.among(printed.numbers or ())
+        yield from table_comments(renumbered(self.described, ends, tied)).splitlines()
         for number, name in sorted(self.nodes.items()):
             if 1 <= number <= printed.problem.node_count:
                 yield f"c node {number} {name}"
@@ -234,6 +234,7 @@ def table(names: AnswerNames, follower: TranscriptReader) -> str:
         lambda number: names.arcs.get(number, ""),
         names.ends_of_problem,
         names.subject.extra,
+        both_ways=tuple(names.described.both_ways.among(solution.numbers).pairs()),
     )
     return plan_text(arcs, told, names.measure, raw_names=names.subject.raw_names)
 

@@ -4,12 +4,13 @@ of what each costs.
     dmf-sweep problem.max --close-each --of cut --top 20 >table.csv
     dmf-sweep pipes.csv Lake Sea --cases cases.txt >table.csv
 
-With --close-each, each case closes one arc: one of the smallest minimum cut, or any arc. With
---cases, each line of FILE is a case: commands of a session, separated by `;`, as in `close 5; add 1
-4 7`. The table has a line for each case in order: its number, its commands, the name of its first
-arc or node if comments of the problem give one, the greatest value after it, the difference from
-the value before, and why it was refused, if it was. With --top N it has only the N cases with the
-greatest losses, the greatest first, once all are tried.
+With --close-each, each case closes one arc: one of the smallest minimum cut, or any arc. Both arcs
+of a pipe that leads both ways are one case. With --cases, each line of FILE is a case: commands of
+a session, separated by `;`, as in `close 5; add 1 4 7`. The table has a line for each case in
+order: its number, its commands, the name of its first arc or node if comments of the problem give
+one, the greatest value after it, the difference from the value before, and why it was refused, if
+it was. With --top N it has only the N cases with the greatest losses, the greatest first, once all
+are tried.
 
 If --table FILE exists because an earlier run was interrupted, the sweep goes on after its last
 whole line. In FILE each line has one more field, `problem`, which is the same for all lines of one

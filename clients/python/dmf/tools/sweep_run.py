@@ -4,7 +4,7 @@ from __future__ import annotations
 
 import argparse
 import sys
-from collections.abc import Iterator
+from collections.abc import Iterator, Sequence
 from decimal import Decimal
 from typing import Any
 
@@ -13,7 +13,7 @@ from ..errors import Refused
 from ..files import read_file
 from ..network import Network
 from ..quantity import POINT
-from ..sweeps.cases import Cases, SweepResult, each_arc_closed, sweep
+from ..sweeps.cases import Cases, EachClosed, SweepResult, sweep
 from ..tables.sheet import cell_of, line, number_cell
 from ..text.events import case_line
 from ..text.lexical import NODE, Fault
@@ -36,6 +36,9 @@ class CaseNames:
         said = described(text)
         self.measure = said.measure
         self._folding = TableRoles(said)
+        columns = network._kept.columns
+        # The other way of the pipe that an arc is of, or 0.
+        self.partners = self._folding.partners(columns.tails, columns.heads)
         self._names = names_in(naming_pieces(text, NODE), NODE)
         self._numbers = {node: number for number, node in enumerate(self.nodes, 1)}
 
@@ -83,8 +86,9 @@ class CaseNames:
         role = self._folding.role(tail, head)
         if role:
             return role_words(role, self.node_name)
+        arrow = "<->" if self.partners and self.partners[arc.number] else "->"
         return (
-            f"{self.node_name(tail)} -> {self.node_name(head)}"
+            f"{self.node_name(tail)} {arrow} {self.node_name(head)}"
             if arc.given_key is None
             else str(arc.given_key)
         )
@@ -119,9 +123,17 @@ def cases_of_file(path: str) -> list[list[tuple[Any, ...]]]:
     ]
 
 
-def cases_of_arcs(network: Network[Any], of: str) -> list[list[tuple[Any, ...]]]:
+def cases_of_arcs(
+    network: Network[Any], of: str, partners: Sequence[int]
+) -> list[list[tuple[Any, ...]]]:
+    """Return the cases that each close a pipe: an arc, or the two ways of one that leads both
+    ways."""
     arcs = network._leaving_cut() if of == "cut" else network.arcs
-    return [[("close", arc.number)] for arc in arcs]
+    back = {arc.number: partners[arc.number] for arc in arcs} if partners else {}
+    pipes = dict.fromkeys(
+        tuple(sorted(filter(None, (arc.number, back.get(arc.number, 0))))) for arc in arcs
+    )
+    return [[("close", number) for number in pipe] for pipe in pipes]
 
 
 class SweepRun:
@@ -132,7 +144,9 @@ class SweepRun:
         self._named = CaseNames(network, text)
         self.measure = self._named.measure
         self.cases = (
-            cases_of_arcs(network, words.of) if words.cases is None else cases_of_file(words.cases)
+            cases_of_arcs(network, words.of, self._named.partners)
+            if words.cases is None
+            else cases_of_file(words.cases)
         )
         self._is_close_each = words.cases is None
         self.jobs: int | None = words.jobs
@@ -188,7 +202,7 @@ class SweepRun:
         cases = [self._named.case(numbered) for numbered in self.cases[done:]]
         asked: Cases = cases
         if self._is_close_each:
-            asked = each_arc_closed([arc for ((_, arc),) in cases])
+            asked = EachClosed([[arc for _, arc in case] for case in cases])
         is_watched = sys.stderr is not None and sys.stderr.isatty()
         for at, result in enumerate(
             sweep(self.network, asked, jobs=self.jobs, progress=is_watched, anew=self.anew),

@@ -134,14 +134,14 @@ def _cap_all(desk: Desk, content: Json) -> None:
 def _capacity(desk: Desk, number: int, text: str) -> Quantity:
     """Return the capacity that a text gives an arc. Raise a `DeskFault` that names the arc."""
     try:
-        return amount(text, desk.network.measure, desk.network.line(number).capacity)
+        return amount(text, desk.network.measure, desk.network.pipe(number).capacity)
     except DeskFault as fault:
         raise DeskFault(f"{desk.network.names.short(number)}: {fault}") from None
 
 
 def _cap(desk: Desk, content: Json) -> None:
     network, number = desk.network, content["arc"]
-    present = network.line(number).capacity
+    present = network.pipe(number).capacity
     desk.cap(number, amount(content["capacity"], network.measure, present))
 
 

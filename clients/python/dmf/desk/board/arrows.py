@@ -7,6 +7,8 @@ import math
 import re
 from xml.etree import ElementTree
 
+from ...quantity import Quantity
+
 SVG = "http://www.w3.org/2000/svg"
 # The length of an arrow, and half its width, in the units of the picture.
 LONG, HALF = 9.0, 4.0
@@ -31,6 +33,21 @@ def add_arrows(root: ElementTree.Element) -> None:
         tip = max(corners, key=lambda corner: math.dist(corner, curve[-1]))
         path.set("d", _written([*curve, curve[-1], tip, tip]))
         group.insert([*group].index(path) + 1, _arrow(*_middle(curve)))
+
+
+def turn_arrow(group: ElementTree.Element, flow: Quantity) -> None:
+    """Have the arrow of a pipe that leads both ways point to where this net flow goes: back if it
+    is below 0, and nowhere if nothing flows."""
+    head = group.find(f"{{{SVG}}}polygon")
+    if head is None or flow > 0:
+        return
+    if not flow:
+        head.set("visibility", "hidden")
+        return
+    (x, y), *others = _points(head.get("points") or "")
+    right, down = (sum(it[axis] for it in others) / len(others) for axis in (0, 1))
+    turned = ((right + x - one, down + y - other) for one, other in ((x, y), *others))
+    head.set("points", " ".join(f"{one:.2f},{other:.2f}" for one, other in turned))
 
 
 def _written(curve: list[Point]) -> str:

@@ -26,7 +26,7 @@ from ..project.comparison import (
 )
 from ..project.scenarios import project_of
 from ..workspace import Desk
-from .arrows import SVG
+from .arrows import SVG, turn_arrow
 from .layout import NoPicture, Places
 from .picture import DrawnArc, DrawnNode, Picture, Shape, marked, written
 from .responses import Json, WrongForm
@@ -118,7 +118,13 @@ class DifferencePicture(Picture):
             # The page has another picture, with these names.
             group.set("id", f"two-{name}")
         present = dict(known_arcs(self._desk))
+        pipes = self._desk.network.pipes
         for arc in drawn.arcs:
+            if isinstance(arc.known, int) and pipes.is_two_way(arc.known):
+                # Where what does not differ flows is not known here.
+                turn_arrow(
+                    groups[f"arc-{arc.number}"], arc.differs.second.flow if arc.differs else 0
+                )
             _fill_arc(groups[f"arc-{arc.number}"], arc, self._label(arc), present.get(arc.known, 0))
         return (
             written(root, STYLE, self._below(found, drawn)) if to_take else written(root),
@@ -249,6 +255,8 @@ def _amounts(differs: ArcDifference | None) -> str:
     def told(it: ArcState) -> str:
         if it.state != OPEN:
             return it.state
+        if it.amounts:
+            return it.amounts
         capacity = "" if it.is_unlimited or not has_capacity else f"/{plain_text(it.capacity)}"
         return plain_text(it.flow) + capacity + ", limit" * (has_limit and it.is_limit)
 

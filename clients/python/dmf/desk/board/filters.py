@@ -6,7 +6,7 @@ import re
 from collections.abc import Callable
 from itertools import groupby
 
-from ...quantity import EXACT, Quantity, QuantityFault, number_in
+from ...quantity import EXACT, Quantity, QuantityFault, magnitude, number_in
 from ...text.spelling import folded, quoted_name
 from ..expressions import COMPARED, Condition, condition
 from ..steps import DeskFault
@@ -65,7 +65,7 @@ class Filters:
         desk, word = self._desk, part.casefold()
         network = desk.network
         if word == "closed":
-            return lambda number: network.lines[number - 1].is_closed, word
+            return lambda number: network.pipes.pipe(number).is_closed, word
         if word == "changed":
             return network.changed().__contains__, word
         if word == "added":
@@ -115,22 +115,22 @@ class Filters:
             raise DeskFault(f"{quoted_name(text)} {fault}") from None
 
         def holds(number: int) -> bool:
-            line = network.lines[number - 1]
-            used = EXACT.multiply(quantity(flows[number - 1]), 100)
-            of_all: Quantity = EXACT.multiply(bound, line.capacity) if line.capacity else bound
-            return not line.is_closed and is_so(used, of_all)
+            pipe, flow = network.pipes.pipe(number), quantity(flows[number - 1])
+            used, room = EXACT.multiply(magnitude(flow), 100), pipe.room(flow)
+            of_all: Quantity = EXACT.multiply(bound, room) if room else bound
+            return not pipe.is_closed and is_so(used, of_all)
 
         return holds
 
     def _since(self, column: str, is_so: Callable[[Quantity, Quantity], bool]) -> Condition | None:
         """Return the condition on a flow or a capacity against that of the beginning, which an arc
         that was added does not have. Return None for another column."""
-        beginning, lines = self._beginning, self._desk.network.lines
+        beginning, pipe = self._beginning, self._desk.network.pipes.pipe
         if column == "capacity":
 
             def is_other(number: int) -> bool:
                 before = beginning.capacity(number)
-                return before is not None and is_so(lines[number - 1].capacity, before)
+                return before is not None and is_so(pipe(number).capacity, before)
 
             return is_other
         if column != "flow":
@@ -138,7 +138,7 @@ class Filters:
         if not beginning.is_known:
             raise DeskFault("the flows at the beginning are not known here: go back to it once")
         flows = self._desk.flows()
-        return lambda number: is_so(flows[number - 1], beginning.flow(number))
+        return lambda number: is_so(magnitude(flows[number - 1]), magnitude(beginning.flow(number)))
 
 
 def _wrong(part: str) -> DeskFault:

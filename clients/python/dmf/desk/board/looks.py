@@ -7,6 +7,7 @@ from collections.abc import Sequence
 from typing import NamedTuple
 
 from ...quantity import Quantity
+from ..pipes import THERE, way_sign
 from ..workspace import Desk
 
 # The state of an arc: nothing flows, something flows, it is full, it is in the bottleneck, closed.
@@ -19,14 +20,15 @@ MOST = 9
 
 
 class Mark(NamedTuple):
-    """A character for each property that the page may show of an arc: its state; the tenths of its
-    capacity that are used; what changed; and the square root of its capacity, from 0 to 9 for the
-    widest."""
+    """A character for each property that the page may show of a pipe: its state; the tenths of its
+    capacity that are used; what changed; the square root of its capacity, from 0 to 9 for the
+    widest; and which way it flows."""
 
     state: str
     use: str
     change: str
     width: str
+    way: str
 
 
 class Beginning:
@@ -72,14 +74,16 @@ class Looks:
         desk = self._desk
         network, flows, cut = desk.network, desk.flows(), desk.cut_arcs()
         is_known, whole = self._beginning.is_known, network.measure.whole
-        capacities = [whole(network.lines[number - 1].capacity) for number in numbers]
+        pipes = network.pipes.of(numbers)
+        rooms = [pipe.room(flows[number - 1]) for number, pipe in zip(numbers, pipes)]
+        capacities = [*map(whole, rooms)]
         largest = max(capacities, default=0) or 1
         found = []
-        for number, capacity in zip(numbers, capacities):
-            line, flow = network.lines[number - 1], flows[number - 1]
+        for number, pipe, capacity in zip(numbers, pipes, capacities):
+            flow = abs(flows[number - 1])
             state = (
                 CLOSED
-                if line.is_closed
+                if pipe.is_closed
                 else LIMIT
                 if number in cut
                 else UNUSED
@@ -91,20 +95,22 @@ class Looks:
             use = min(MOST, 10 * flow // capacity) if capacity else 0
             width = round(MOST * math.sqrt(capacity / largest))
             change = self._change(number, flow, is_known=is_known)
-            found.append(Mark(state, str(use), change, str(width)))
+            # One that leads one way points there.
+            way = way_sign(pipe, flows[number - 1]) or THERE
+            found.append(Mark(state, str(use), change, str(width), way))
         return found
 
     def _change(self, number: int, flow: int, *, is_known: bool) -> str:
-        """Return the sign of what changed on an arc."""
-        line = self._desk.network.lines[number - 1]
+        """Return the sign of what changed on a pipe."""
+        pipe = self._desk.network.pipes.pipe(number)
         before = self._beginning.capacity(number)
-        if line.is_closed:
+        if pipe.is_closed:
             return SHUT
         if before is None:
             return ADDED
-        if line.capacity != before:
-            return WIDER if line.capacity > before else NARROWER
+        if pipe.capacity != before:
+            return WIDER if pipe.capacity > before else NARROWER
         if not is_known:
             return UNKNOWN
-        flowed = self._beginning.flow(number)
+        flowed = abs(self._beginning.flow(number))
         return MORE if flow > flowed else LESS if flow < flowed else SAME

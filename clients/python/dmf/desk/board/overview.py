@@ -9,7 +9,7 @@ from ..export import MOST_DRAWN
 from ..steps import DeskFault
 from ..workspace import Desk
 from .layout import Places, Spot
-from .looks import Looks
+from .looks import Looks, Mark
 from .responses import Json
 
 # The character for an arc that is not drawn: it belongs to a place, or was opened again as another.
@@ -60,18 +60,19 @@ class Overview:
     def looks(self) -> Json:
         """Return what a step may change: how each arc of the file looks and each place, by a sign
         for each, and the arcs that were added with their numbers, their ends and their signs. An
-        arc has a sign in each of four texts, one for each field of a `Mark`."""
+        arc has a sign in each of five texts, one for each field of a `Mark`."""
         desk = self._desk
         network = desk.network
         side, shown = desk.side(), network.pictured()
         marks = dict(zip(shown, self._looks.marks(shown)))
         shut = {network.folding.place(node) for node in network.shut_nodes}
         added = range(network.first_count + 1, len(network.lines) + 1)
-        given = [marks.get(number, NONE * 4) for number in range(1, network.first_count + 1)]
+        none = NONE * len(Mark._fields)
+        given = [marks.get(number, none) for number in range(1, network.first_count + 1)]
         return {
             **{
                 name: "".join(mark[place] for mark in given)
-                for place, name in enumerate(("arcs", "uses", "changes", "widths"))
+                for place, name in enumerate(("arcs", "uses", "changes", "widths", "ways"))
             },
             "places": "".join(
                 SHUT if node in shut else BEFORE if node in side else PLAIN for node in self._nodes

@@ -10,13 +10,14 @@ from dataclasses import dataclass
 from typing import NamedTuple
 from xml.etree import ElementTree
 
-from ...quantity import POINT, plain_text
+from ...quantity import POINT, magnitude, plain_text
 from ...text.drawing import CUT, SIDE, UNUSED, drawn_line, quoted
 from ...text.table_comments import AT_PLACE
 from ..export import LEGEND, said_of
+from ..pipes import TwoWayPipe
 from ..steps import DeskArc
 from ..workspace import Desk
-from .arrows import SVG, add_arrows
+from .arrows import SVG, add_arrows, turn_arrow
 from .layout import Places, Way, run
 
 # Up to this many places, arcs are routed around places, which takes a second for 50 of them.
@@ -149,6 +150,12 @@ class Picture:
             self._given = Counter(
                 node for number in numbers for node in self._ends(network.lines[number - 1])
             )
+        if network.pipes.are_two_way:
+            return Counter(
+                node
+                for number in network.pictured()
+                for node in self._ends(network.lines[number - 1])
+            )
         degrees = self._given.copy()
         degrees.update(node for line in network.lines[given:] for node in self._ends(line))
         degrees.subtract(
@@ -249,14 +256,15 @@ class Picture:
                 group.remove(title)
         for number, *_ in shape.arcs:
             group = groups[f"arc-{number}"]
-            line, flow = network.lines[number - 1], desk.flow(number)
-            is_full = flow > 0 and flow == line.capacity
+            pipe, flow = network.pipe(number), desk.flow(number)
             looks = {
-                "closed": line.is_closed,
+                "closed": pipe.is_closed,
                 "cut": number in cut,
-                "full": is_full,
-                "unused": not flow and not line.is_closed,
+                "full": pipe.is_full(flow),
+                "unused": not flow and not pipe.is_closed,
             }
+            if isinstance(pipe, TwoWayPipe):
+                turn_arrow(group, flow)
             group.findall(f"{{{SVG}}}text")[-1].text = _amounts(desk, number)
             _mark(
                 group,
@@ -292,36 +300,41 @@ def _widest(desk: Desk, number: int) -> str:
     """Return the widest text that an arc's numbers can have as long as its capacity keeps its
     number of digits."""
     network = desk.network
-    capacity = re.sub("[0-9]", WIDEST, plain_text(network.lines[number - 1].capacity))
+    pipe = network.pipes.pipe(number)
+    widest = max((plain_text(pipe.room(way)) for way in (1, -1)), key=len)
+    capacity = re.sub("[0-9]", WIDEST, widest)
     decimals = network.measure.decimals
     flow = capacity.partition(POINT)[0] + bool(decimals) * (POINT + WIDEST * decimals)
     return max(f"{flow}/{capacity}", CLOSED, key=len)
 
 
 def _amounts(desk: Desk, number: int) -> str:
-    """Return the flow on an arc and its capacity, in short."""
-    line, flow = desk.network.lines[number - 1], plain_text(desk.flow(number))
+    """Return the flow on a pipe and its capacity that way, in short."""
+    pipe, flow = desk.network.pipes.pipe(number), desk.flow(number)
+    told = plain_text(magnitude(flow))
     return (
         CLOSED
-        if line.is_closed
-        else flow
-        if line.is_unlimited
-        else f"{flow}/{plain_text(line.capacity)}"
+        if pipe.is_closed
+        else told
+        if pipe.is_unlimited
+        else f"{told}/{plain_text(pipe.room(flow))}"
     )
 
 
 def spoken(desk: Desk, number: int) -> str:
-    """Return the flow on an arc, in words."""
+    """Return the flow on a pipe, in words."""
     network = desk.network
-    line, flow = network.line(number), desk.flow(number)
-    if line.is_closed:
+    pipe, flow = network.pipe(number), desk.flow(number)
+    if pipe.is_closed:
         return CLOSED
-    if line.is_unlimited:
+    if pipe.is_unlimited:
         return network.told(flow)
-    return (
-        f"{plain_text(flow)} of "
-        f"{network.told(line.capacity)}{', full' if flow and flow == line.capacity else ''}"
+    told = (
+        network.told_amounts(number, flow)
+        if isinstance(pipe, TwoWayPipe)
+        else f"{plain_text(flow)} of {network.told(pipe.capacity)}"
     )
+    return told + ", full" * pipe.is_full(flow)
 
 
 def _mark(group: ElementTree.Element, kind: str, looks: dict[str, bool], label: str) -> None:

@@ -8,11 +8,13 @@ from collections import defaultdict
 from collections.abc import Callable, Iterable
 from typing import Any
 
+from ...quantity import magnitude
 from ...text.drawing import spread
 from ...text.spelling import folded
 from ..export import MOST_DRAWN
 from ..steps import DeskFault
 from ..workspace import Desk
+from ..worth import left_without
 from .filters import Filters
 from .looks import Beginning
 from .responses import Json, WrongForm
@@ -41,7 +43,8 @@ class Nearby:
 
         def at_node(node: int) -> Iterable[int]:
             there = (*given.get(node, ()), *added.get(node, ()))
-            return [number for number in there if not network.lines[number - 1].is_replaced]
+            opened = (number for number in there if not network.lines[number - 1].is_replaced)
+            return network.pipes.numbers(opened)
 
         cut = [] if nodes or not desk.is_greatest else list(desk.cut_arcs())
         chosen = [number for number in cut if not network.role(number)]
@@ -170,8 +173,8 @@ class ArcList:
             "name": lambda number: natural(names.short(number)),
             "from": lambda number: natural(names.node(lines[number - 1].tail)),
             "to": lambda number: natural(names.node(lines[number - 1].head)),
-            "flow": lambda number: flows[number - 1],
-            "capacity": lambda number: lines[number - 1].capacity,
+            "flow": lambda number: magnitude(flows[number - 1]),
+            "capacity": lambda number: network.pipes.pipe(number).room(flows[number - 1]),
             "use": self._use,
             "lost": self._lost,
         }
@@ -180,18 +183,19 @@ class ArcList:
         return columns[column]
 
     def _use(self, number: int) -> float:
-        """Return which part of an arc's capacity is used; less than nothing if it is closed."""
+        """Return which part of a pipe's capacity is used; less than nothing if it is closed."""
         network, flows = self._desk.network, self._desk.flows()
-        line = network.lines[number - 1]
-        if line.is_closed:
+        pipe = network.pipes.pipe(number)
+        if pipe.is_closed:
             return -1.0
         flow = network.measure.quantity(flows[number - 1])
-        return float(flow) / float(line.capacity) if line.capacity else 0.0
+        room = pipe.room(flow)
+        return float(magnitude(flow)) / float(room) if room else 0.0
 
     def _lost(self, number: int) -> int:
         """Return what is lost without an arc: nothing while that is not known."""
         worth = self._desk.state.answers.worth
-        return worth.value - worth.without[number - 1] if worth else 0
+        return worth.value - left_without(self._desk, worth, number) if worth else 0
 
     def _label(self, number: int) -> str:
         """Return what an arc is found by."""

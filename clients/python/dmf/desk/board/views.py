@@ -7,38 +7,40 @@ import os
 from collections.abc import Sequence
 from decimal import Decimal
 
-from ...quantity import EXACT, Quantity, moved, plain_text
+from ...quantity import EXACT, Quantity, magnitude, moved, plain_text
 from ...text.spelling import cleaned
 from ..analysis import cheapest, priced, prices
 from ..demands import told_demands
 from ..expressions import amount, successors
+from ..pipes import TwoWayPipe, other_way, way_sign
 from ..project.scenarios import Scenarios
-from ..steps import Trial
+from ..steps import Place, Trial
 from ..workspace import Desk
-from ..worth import losses, worst
+from ..worth import left_without, losses, worst
 from .responses import Json, whole
 
 
 def many_view(desk: Desk, numbers: list[int]) -> Json:
-    """Return which of these arcs exist, open and closed, and the sums of the flows and the
+    """Return which of these pipes exist, open and closed, and the sums of the flows and the
     capacities of the open ones. One that was opened again has its new number."""
     network = desk.network
     now = successors(desk)
     found = dict.fromkeys(now.get(number, number) for number in numbers)
-    there = [
+    there = network.pipes.numbers(
         number
         for number in found
         if 0 < number <= len(network.lines) and not network.lines[number - 1].is_replaced
-    ]
-    opened = [number for number in there if not network.lines[number - 1].is_closed]
+    )
+    pipes = {number: network.pipes.pipe(number) for number in there}
+    opened = [number for number, pipe in pipes.items() if not pipe.is_closed]
     flow: Quantity = 0
     capacity: Quantity = 0
     for number, flowing in zip(opened, desk.flows_on(opened)):
-        flow = EXACT.add(flow, flowing)
-        capacity = EXACT.add(capacity, network.lines[number - 1].capacity)
+        flow = EXACT.add(flow, magnitude(flowing))
+        capacity = EXACT.add(capacity, pipes[number].room(flowing))
     return {
         "open": opened,
-        "closed": [number for number in there if network.lines[number - 1].is_closed],
+        "closed": [number for number, pipe in pipes.items() if pipe.is_closed],
         "flow": plain_text(flow),
         "capacity": plain_text(capacity),
     }
@@ -129,43 +131,24 @@ def state_view(desk: Desk, offer: str = "") -> Json:
 
 
 def arc_view(desk: Desk, number: int) -> Json:
-    """Return an arc as it is, and what is left without both arcs of a pipe that leads both ways.
-    Raise a `DeskFault` if no arc has this number."""
+    """Return the pipe that an arc is of. Raise a `DeskFault` if no arc has this number."""
     desk.network.line(number)
-    told = with_worth(desk, arc_views(desk, [number]))[0]
-    return {**told, "without_both": _left_without_both(desk, number)}
-
-
-def _left_without_both(desk: Desk, number: int) -> str:
-    """Return what is left without an arc and the one that leads back, if that has the same name;
-    nothing if there is none, or that is not known.
-
-    The greatest value is a concave function of what flows forward on the two, less what flows
-    back. Without one of them it is the greatest at 0 and on one side of 0; so at 0, which is
-    without both, it is the lesser of these.
-    """
-    network, worth = desk.network, desk.state.answers.worth
-    line, name = network.lines[number - 1], network.names.given_arc(number)
-    if worth is None or line.is_closed or not name:
-        return ""
-    back = [
-        other
-        for other, it in network.opened()
-        if it[:2] == (line.head, line.tail) and network.names.given_arc(other) == name
-    ]
-    if len(back) != 1:
-        return ""
-    left = min(worth.without[number - 1], worth.without[back[0] - 1])
-    return plain_text(network.measure.quantity(left))
+    return with_worth(desk, arc_views(desk, [desk.network.pipes.number(number)]))[0]
 
 
 def arc_views(desk: Desk, numbers: Sequence[int]) -> list[Json]:
-    """Return these arcs as they are."""
+    """Return these pipes as they are. Of one that leads both ways they have the capacity for the
+    way that it flows, which `way` is the sign of, and what it can carry the other way if that is
+    something else."""
     network, cut = desk.network, desk.cut_arcs()
-    names_of = network.names.arc_names
+    names_of, flows = network.names.arc_names, desk.flows_on(numbers)
     found = []
-    for number, line, flow in zip(numbers, network.lines.of(numbers), desk.flows_on(numbers)):
+    for number, pipe, flow in zip(numbers, network.pipes.of(numbers), flows):
         names = names_of(number)
+        capacity, looks = pipe.capacity, {"way": "", "other_way": ""}
+        if isinstance(pipe, TwoWayPipe):
+            capacity, other = pipe.room(flow), other_way(pipe, flow, (names.tail, names.head))
+            looks = {"way": way_sign(pipe, flow), "other_way": other}
         found.append(
             {
                 "number": number,
@@ -176,12 +159,13 @@ def arc_views(desk: Desk, numbers: Sequence[int]) -> list[Json]:
                 "tail_node": names.tail_node,
                 "tail": names.tail,
                 "head": names.head,
-                "flow": plain_text(flow),
-                "capacity": plain_text(line.capacity),
-                "closed": line.is_closed,
-                "replaced": line.is_replaced,
-                "unlimited": line.is_unlimited,
-                "full": flow > 0 and flow == line.capacity,
+                "flow": plain_text(-flow if flow < 0 else flow),
+                "capacity": plain_text(capacity),
+                **looks,
+                "closed": pipe.is_closed,
+                "replaced": pipe.is_replaced,
+                "unlimited": pipe.is_unlimited,
+                "full": flow != 0 and flow in (capacity, -capacity),
                 "limit": number in cut,
             }
         )
@@ -194,7 +178,7 @@ def with_worth(desk: Desk, arcs: list[Json]) -> list[Json]:
     worth, quantity = desk.state.answers.worth, desk.network.measure.quantity
     if worth is None:
         return [{**arc, "without": "", "lost": ""} for arc in arcs]
-    left = [worth.without[arc["number"] - 1] for arc in arcs]
+    left = [left_without(desk, worth, arc["number"]) for arc in arcs]
     return [
         {
             **arc,
@@ -229,14 +213,12 @@ def place_view(desk: Desk, node: int) -> Json:
     """Return a place as it is. Raise a `DeskFault` if no place has this number."""
     network = desk.network
     place = network.names.place_of(node)
-    opened = [number for number in network.pictured() if not network.lines[number - 1].is_closed]
-    entering = [number for number in opened if network.lines[number - 1].head == place.entry]
-    leaving = [number for number in opened if network.lines[number - 1].tail == place.exit]
+    entering, leaving = _through(desk, place)
     return {
         "node": node,
         "name": network.names.node(node),
-        "in": plain_text(sum(desk.flows_on(entering))),
-        "out": plain_text(sum(desk.flows_on(leaving))),
+        "in": plain_text(sum(entering.values())),
+        "out": plain_text(sum(leaving.values())),
         "roles": arc_views(desk, [number for number, _ in network.roles().get(place.entry, ())]),
         "is_source": place.entry in network.sources,
         "is_sink": place.entry in network.sinks,
@@ -244,6 +226,30 @@ def place_view(desk: Desk, node: int) -> Json:
         "open": bool(entering or leaving),
         "side": node in desk.side(),
     }
+
+
+def _through(desk: Desk, place: Place) -> tuple[dict[int, Quantity], dict[int, Quantity]]:
+    """Return the open pipes that lead into a place and out of it, each with what it brings or
+    takes. One that leads both ways is told once, where it flows."""
+    network = desk.network
+    lines, pipes = network.lines, network.pipes
+    entering: dict[int, Quantity] = {}
+    leaving: dict[int, Quantity] = {}
+    there = [
+        number
+        for number in network.opened_pipes()
+        if any(
+            lines[arc - 1].head == place.entry or lines[arc - 1].tail == place.exit
+            for arc in pipes.arcs(number)
+        )
+    ]
+    for number, flow in zip(there, desk.flows_on(there)):
+        way = pipes.pipe(number).way(flow)
+        if way.head == place.entry:
+            entering[number] = magnitude(flow)
+        if way.tail == place.exit:
+            leaving[number] = magnitude(flow)
+    return entering, leaving
 
 
 def costs_view(desk: Desk, column: str, to: str, second: str) -> Json:
@@ -278,11 +284,8 @@ def costs_view(desk: Desk, column: str, to: str, second: str) -> Json:
 
 
 def opened_view(desk: Desk) -> Json:
-    """Return the arcs that can be tried: the open ones of the table and those that were added."""
-    network = desk.network
-    return {
-        "arcs": [number for number in network.pictured() if not network.lines[number - 1].is_closed]
-    }
+    """Return the pipes that can be tried: the open ones of the table and those that were added."""
+    return {"arcs": desk.network.opened_pipes()}
 
 
 # The number of digits of a session's largest number.

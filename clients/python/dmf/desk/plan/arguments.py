@@ -34,7 +34,7 @@ def last_closed(desk: Desk) -> Callable[[], object]:
                 and network.lines[change.arc - 1].is_closed
                 and not network.lines[change.arc - 1].is_replaced
             ):
-                return partial(desk.open, change.arc)
+                return partial(desk.open, network.pipes.number(change.arc))
     raise DeskFault("nothing is closed")
 
 
@@ -115,11 +115,11 @@ def _ends_of_amount(desk: Desk, words: list[str], at: int) -> list[int]:
 
 
 def arcs_named(desk: Desk, words: list[str]) -> list[int]:
-    """Return the arcs that the words of `flow` mean: those of a name, those at a place, or all;
+    """Return the pipes that the words of `flow` mean: those of a name, those at a place, or all;
     none that was opened again as another one."""
     network = desk.network
     name = " ".join(words)
-    numbers = list(range(1, len(network.lines) + 1))
+    numbers = _every(desk)
     if words and network.names.is_place(name):
         numbers = _at(desk, name)
     elif words:
@@ -128,15 +128,14 @@ def arcs_named(desk: Desk, words: list[str]) -> list[int]:
 
 
 def arcs_of_name(desk: Desk, name: str) -> list[int]:
-    """Return the open arcs that a name means: several if a pipe leads both ways. Raise a
-    `DeskFault` if all are closed."""
+    """Return the open pipes that a name means. Raise a `DeskFault` if all are closed."""
     network = desk.network
-    opened = [it for it in network.names.arcs(name) if not network.lines[it - 1].is_closed]
+    opened = [it for it in network.names.arcs(name) if not network.pipe(it).is_closed]
     return opened or [network.the_arc(name)]
 
 
 def arcs_to_try(desk: Desk, words: list[str]) -> list[int]:
-    """Return the open arcs that the words of `what-if each` mean: those of the limit, those at a
+    """Return the open pipes that the words of `what-if each` mean: those of the limit, those at a
     place, or all."""
     network = desk.network
     rest = [word for word in words[1:] if word not in ("of", "the")]
@@ -145,25 +144,31 @@ def arcs_to_try(desk: Desk, words: list[str]) -> list[int]:
     elif words and words[1:] and rest in (["cut"], ["limit"]):
         wanted = list(desk.cut_arcs()) if desk.is_greatest else []
     elif len(words) == 1 or rest == ["all"]:
-        wanted = list(range(1, len(network.lines) + 1))
+        wanted = _every(desk)
     else:
         raise DeskFault(f"usage: {COMMANDS['what-if'].form}")
-    return [number for number in wanted if not network.line(number).is_closed]
+    return [number for number in wanted if not network.pipe(number).is_closed]
+
+
+def _every(desk: Desk) -> list[int]:
+    """Return all pipes, with those that stand for what places give, take or let through."""
+    network = desk.network
+    return network.pipes.numbers(range(1, len(network.lines) + 1))
 
 
 def _at(desk: Desk, name: str) -> list[int]:
-    """Return the arcs at a place."""
+    """Return the pipes at a place."""
     network = desk.network
     place = network.names.place(name)
-    return [
+    return network.pipes.numbers(
         number
         for number, line in enumerate(network.lines, 1)
         if {line.tail, line.head} & set(place)
-    ]
+    )
 
 
 def arcs_listed(desk: Desk, words: list[str]) -> list[int]:
-    """Return the arcs of the table that the words of `pipes` mean: all, or the open ones of which
+    """Return the pipes of the table that the words of `pipes` mean: all, or the open ones of which
     conditions are so."""
     if words and words[0] != WHERE:
         raise DeskFault(f"usage: {COMMANDS['pipes'].form}")
@@ -171,14 +176,18 @@ def arcs_listed(desk: Desk, words: list[str]) -> list[int]:
 
 
 def arcs_from(desk: Desk, words: list[str]) -> list[int]:
-    """Return the arcs of the table that lead away from a place."""
+    """Return the pipes of the table that lead away from a place."""
     network = desk.network
-    place = network.names.place(one_name(words, "from"))
-    return [number for number in network.pictured() if network.lines[number - 1].tail == place.exit]
+    place, lines = network.names.place(one_name(words, "from")), network.lines
+    return [
+        number
+        for number in network.pictured()
+        if any(lines[arc - 1].tail == place.exit for arc in network.pipes.arcs(number))
+    ]
 
 
 def arcs_where(desk: Desk, words: list[str], *, are_closed: bool = False) -> list[int]:
-    """Return the open arcs, or the closed ones, that meet conditions. Raise a `DeskFault` if there
+    """Return the open pipes, or the closed ones, that meet conditions. Raise a `DeskFault` if there
     are none."""
     network = desk.network
     conditions = [
@@ -187,7 +196,7 @@ def arcs_where(desk: Desk, words: list[str], *, are_closed: bool = False) -> lis
     if not conditions or words[0] == AND or words[-1] == AND:
         raise DeskFault(f"expected after `where`: {CONDITIONS}")
     numbers = [
-        number for number in network.pictured() if network.lines[number - 1].is_closed == are_closed
+        number for number in network.pictured() if network.pipe(number).is_closed == are_closed
     ]
     found = [number for number in numbers if all(is_so(number) for is_so in conditions)]
     if not found:
@@ -216,7 +225,7 @@ def capped_where(desk: Desk, words: list[str]) -> tuple[dict[int, Quantity], str
     text, conditions = " ".join(words[-size:]), words[1:-size]
     numbers = arcs_where(desk, conditions)
     capacities = {
-        number: amount(text, network.measure, network.line(number).capacity) for number in numbers
+        number: amount(text, network.measure, network.pipe(number).capacity) for number in numbers
     }
     return capacities, f"{arcs_told(numbers, words[:-size])}: {text}"
 

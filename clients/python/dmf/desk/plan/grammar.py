@@ -117,9 +117,8 @@ COMMANDS = {
     ),
     "worth": Help(
         "worth ARC",
-        "Shows the value that is left without an arc. If several arcs have the name, as where a "
-        "pipe leads both ways, it shows what is left without each, and without all of them. "
-        "Nothing changes.",
+        "Shows the value that is left without an arc. If several arcs have the name, it shows what "
+        "is left without each, and without all of them. Nothing changes.",
         ARC,
     ),
     "draw": Help(

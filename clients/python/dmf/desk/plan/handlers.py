@@ -92,7 +92,7 @@ def _cap(context: Context, words: list[str]) -> None:
         _change(context, lambda: desk.cap_each(capacities, told), f"{len(capacities)} changed")
         return
     number, text = capped(desk, words)
-    capacity = amount(text, desk.network.measure, desk.network.line(number).capacity)
+    capacity = amount(text, desk.network.measure, desk.network.pipe(number).capacity)
     _change(context, lambda: desk.cap(number, capacity))
 
 

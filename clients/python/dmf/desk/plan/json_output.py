@@ -4,6 +4,7 @@ from __future__ import annotations
 
 from ...quantity import Quantity, plain_text
 from ...text.events import Json, ends, event_line, event_number
+from ..pipes import TwoWayPipe
 from ..project.comparison import ArcState, Comparison, Standing
 from ..project.scenarios import Scenarios
 from ..steps import Trial
@@ -110,20 +111,23 @@ def _losses(desk: Desk, losses: list[Loss]) -> Json:
 
 
 def _arcs(desk: Desk, numbers: list[int]) -> list[Json]:
-    """Return each of these arcs as it is."""
+    """Return each of these pipes as it is. One that leads both ways has a capacity for each, and a
+    flow below 0 if that goes back."""
     network, limit = desk.network, desk.cut_arcs() if desk.is_greatest else {}
     names, found = network.names, []
     for number, flow in zip(numbers, desk.flows_on(numbers)):
-        line = network.line(number)
+        pipe = network.pipe(number)
+        is_two_way = isinstance(pipe, TwoWayPipe)
         found.append(
             {
                 "number": number,
                 "name": names.arc_name(number),
-                **ends(network.role(number), line.tail, line.head, names.node),
-                "capacity": _number(desk, line.capacity),
+                **ends(network.role(number), pipe.tail, pipe.head, names.node),
+                "capacity": _number(desk, pipe.room(1)),
+                **({"capacity_back": _number(desk, pipe.room(-1))} if is_two_way else {}),
                 "flow": _number(desk, flow),
-                "closed": line.is_closed,
-                "unlimited": line.is_unlimited,
+                "closed": pipe.is_closed,
+                "unlimited": pipe.is_unlimited,
                 "limit": number in limit,
             }
         )

@@ -5,7 +5,7 @@ from __future__ import annotations
 from collections import defaultdict
 from collections.abc import Iterable, Iterator
 
-from ...quantity import EXACT, Quantity, moved, plain_text
+from ...quantity import EXACT, Quantity, magnitude, moved, plain_text
 from ...text.lexical import display
 from ...text.spelling import cleaned, quoted_name
 from ...text.table_comments import DEMAND, SUPPLY
@@ -76,9 +76,9 @@ def _limit_lines(desk: Desk) -> Iterator[str]:
     yield f"limit {network.told(desk.value)}"
     if side:
         yield f"  source's side: {', '.join(side[:MOST_SIDE])}{more}"
-    for number in desk.cut_arcs():
-        capacity = plain_text(network.line(number).capacity)
-        yield f"  #{number} {network.names.arc(number)}: {capacity}"
+    cut = list(desk.cut_arcs())
+    for number, flow in zip(cut, desk.flows_on(cut)):
+        yield f"  #{number} {network.names.arc(number)}: {network.told_room(number, flow)}"
 
 
 def _step_lines(desk: Desk) -> Iterator[str]:
@@ -108,21 +108,14 @@ def costs_told(desk: Desk, words: list[str]) -> Iterable[str]:
 
 
 def arc_lines(desk: Desk, numbers: list[int], *, with_limit: bool) -> Iterator[str]:
-    """Yield a line for each of these arcs: its flow and, with `with_limit` and if it is known,
-    whether the arc is part of the limit."""
+    """Yield a line for each of these pipes: its flow and, with `with_limit` and if it is known,
+    whether the pipe is part of the limit."""
     network = desk.network
     limit = desk.cut_arcs() if with_limit and desk.is_greatest else {}
     for number, flow in zip(numbers, desk.flows_on(numbers)):
-        line = network.line(number)
-        is_full = flow and flow == line.capacity
-        amounts = f"{plain_text(flow)} of {plain_text(line.capacity)}{', full' if is_full else ''}"
-        state = (
-            "closed"
-            if line.is_closed
-            else f"{plain_text(flow)}, no limit"
-            if line.is_unlimited
-            else amounts
-        )
+        pipe = network.pipe(number)
+        full = ", full" * pipe.is_full(flow)
+        state = "closed" if pipe.is_closed else network.told_amounts(number, flow) + full
         yield f"  #{number} {network.names.arc(number)}: {state}" + ", limit" * (number in limit)
 
 
@@ -136,8 +129,9 @@ def place_lines(desk: Desk) -> list[str]:
     pictured = network.pictured()
     for number, flow in zip(pictured, desk.flows_on(pictured)):
         line = network.lines[number - 1]
-        leaving[place(line.tail)] = EXACT.add(leaving[place(line.tail)], flow)
-        entering[place(line.head)] = EXACT.add(entering[place(line.head)], flow)
+        tail, head = map(place, line[:2] if flow >= 0 else line[1::-1])
+        leaving[tail] = EXACT.add(leaving[tail], magnitude(flow))
+        entering[head] = EXACT.add(entering[head], magnitude(flow))
     side = desk.side() if desk.is_greatest else set()
     supplies, demands = (limited_amounts(desk, kind) for kind in (SUPPLY, DEMAND))
 

@@ -252,7 +252,8 @@ def requests_of(network: LiveNetwork, changes: Iterable[Change]) -> list[Request
                 continue
         elif isinstance(change, Add):
             ends = place_name(network, change.tail), place_name(network, change.head)
-            request = ("add", (*ends, change.name or ""), plain_text(change.capacity))
+            word = "add back" if change.is_back else "add"
+            request = (word, (*ends, change.name or ""), plain_text(change.capacity))
         elif isinstance(change, Cap):
             request = ("cap", arc_name(network, change.arc), plain_text(change.capacity))
         else:
@@ -270,6 +271,7 @@ def changes_of(
     """Return the changes that requests mean now. Raise a `DeskFault` if one means nothing, or may
     mean several things."""
     found: list[Change] = []
+    last: Request = ()
     for word, named, *amounts in requests:
         if word == "shut":
             place = place_meant(network, named)
@@ -278,9 +280,12 @@ def changes_of(
             ):
                 raise DeskFault(f"no arc is open at {quoted_name(network.names.node(place.entry))}")
             found += [Shut(node) for node in dict.fromkeys(place)]
-        elif word == "add":
+        elif word in ("add", "add back"):
             tail, head = place_meant(network, named[0]), place_meant(network, named[1])
-            found.append(Add(tail.exit, head.entry, _amount(network, amounts[0]), named[2] or None))
+            most, is_back = _amount(network, amounts[0]), word == "add back"
+            if is_back and last != ("add", (named[1], named[0], named[2])):
+                raise DeskFault("it adds a way back, and not the way there before it")
+            found.append(Add(tail.exit, head.entry, most, named[2] or None, is_back))
         else:
             number = arc_meant(network, named, unsure)
             line = network.lines[number - 1]
@@ -292,6 +297,7 @@ def changes_of(
                 found.append(Cap(number, _amount(network, amounts[0])))
             else:
                 found.append(Close(number) if word == "close" else Reopen(number))
+        last = word, named
     return found
 
 

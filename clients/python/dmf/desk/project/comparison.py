@@ -8,9 +8,9 @@ from collections.abc import Iterator
 from dataclasses import dataclass
 from typing import NamedTuple, Union
 
-from ...quantity import Measure, Quantity, moved, plain_text
+from ...quantity import Measure, Quantity, magnitude, moved, plain_text
 from ...text.lexical import display
-from ..steps import DeskArc
+from ..pipes import Pipe, TwoWayPipe, amounts
 from ..workspace import Desk
 from .scenarios import Scenarios
 
@@ -22,20 +22,22 @@ OPEN, CLOSED, ABSENT = "open", "closed", "not there"
 
 class ArcState(NamedTuple):
     """An arc in a scenario: `open`, `closed` or `not there`; its capacity, or the one that it had
-    before it was closed; its flow; whether it belongs to the limit; and whether it carries as much
-    as the arcs at its place, so that its capacity means nothing."""
+    before it was closed; its flow, below 0 if it goes back on one that leads both ways; whether it
+    belongs to the limit; whether it carries as much as the arcs at its place, so that its capacity
+    means nothing; and its amounts in words, if it leads both ways."""
 
     state: str
     capacity: Quantity
     flow: Quantity
     is_limit: bool
     is_unlimited: bool = False
+    amounts: str = ""
 
     def told(self) -> str:
         """Return the state in words: `45 of 45, limit`."""
         if self.state != OPEN:
             return self.state
-        amounts = (
+        amounts = self.amounts or (
             f"{plain_text(self.flow)}, no limit"
             if self.is_unlimited
             else f"{plain_text(self.flow)} of {plain_text(self.capacity)}"
@@ -74,13 +76,8 @@ class ArcDifference:
         was, now = self.first.state == OPEN, self.second.state == OPEN
         if was != now:
             return "come" if now else "gone"
-        return (
-            "more"
-            if self.second.flow > self.first.flow
-            else "less"
-            if self.second.flow < self.first.flow
-            else "else"
-        )
+        before, after = magnitude(self.first.flow), magnitude(self.second.flow)
+        return "more" if after > before else "less" if after < before else "else"
 
 
 @dataclass(frozen=True)
@@ -120,20 +117,31 @@ class _Snapshot:
         flows, lines = desk.flows(), network.lines
         self._cut = frozenset(cut)
         self._flows = flows
-        self._lines: list[DeskArc] = list(lines)
         self._measure = network.measure
         self.numbers = dict(known_arcs(desk))
+        self._pipes: dict[int, Pipe] = (
+            {number: network.pipes.pipe(number) for number in self.numbers.values()}
+            if network.pipes.are_two_way
+            else dict(enumerate(lines, 1))
+        )
+        node = network.names.node
+        self._ends = {
+            number: (node(pipe.tail), node(pipe.head))
+            for number, pipe in self._pipes.items()
+            if isinstance(pipe, TwoWayPipe)
+        }
         # What can differ of each arc, as it can be compared at once.
         self.bare = {
             known: (
-                line.is_closed,
-                line.capacity,
+                pipe.is_closed,
+                pipe.room(1),
+                pipe.room(-1),
                 flows[number - 1],
                 number in cut,
-                line.is_unlimited,
+                pipe.is_unlimited,
             )
             for known, number in self.numbers.items()
-            for line in (lines[number - 1],)
+            for pipe in (self._pipes[number],)
         }
         # An arc that was added is not there in another scenario, and goes by other numbers in it.
         self._added = {
@@ -146,14 +154,15 @@ class _Snapshot:
         number = self.numbers.get(known)
         if number is None:
             return _ABSENT
-        line = self._lines[number - 1]
+        pipe = self._pipes[number]
         flow = self._measure.quantity(self._flows[number - 1])
         return ArcState(
-            CLOSED if line.is_closed else OPEN,
-            line.capacity,
+            CLOSED if pipe.is_closed else OPEN,
+            pipe.capacity,
             flow,
             number in self._cut,
-            line.is_unlimited,
+            pipe.is_unlimited,
+            amounts(pipe, flow, self._ends[number]) if number in self._ends else "",
         )
 
     def label(self, known: Known) -> str:
@@ -162,7 +171,7 @@ class _Snapshot:
 
 
 def known_arcs(desk: Desk) -> Iterator[tuple[Known, int]]:
-    """Yield the arcs of a desk by what they are known by. One that was closed and opened again is
+    """Yield the pipes of a desk by what they are known by. One that was closed and opened again is
     the one that it was."""
     network = desk.network
     count = Counter[tuple[int, int, str]]()
@@ -170,7 +179,7 @@ def known_arcs(desk: Desk) -> Iterator[tuple[Known, int]]:
     yield from (
         (number, number)
         for number, line in enumerate(network.lines[:given], 1)
-        if not line.is_replaced
+        if not line.is_replaced and not network.pipes.is_second(number)
     )
     known: dict[int, Known] = {}
     for number, line in enumerate(network.lines[given:], given + 1):
@@ -180,7 +189,7 @@ def known_arcs(desk: Desk) -> Iterator[tuple[Known, int]]:
         else:
             count[alike] += 1
             known[number] = (*alike, count[alike])
-        if not line.is_replaced:
+        if not line.is_replaced and not network.pipes.is_second(number):
             yield known[number], number
 
 

@@ -205,6 +205,8 @@ class ProjectAnswers:
     def flow(self, arc: str) -> Quantity:
         """Return the flow on an open arc.
 
+        On one that leads both ways it is below 0 if it goes back.
+
         Raises
         ------
         ProjectFault

@@ -104,7 +104,7 @@ class OpenProject(ProjectAnswers):
         with refusing():
             number = self._desk.network.the_arc(arc)
             return self._desk.cap(
-                number, self._amount(capacity, self._desk.network.line(number).capacity)
+                number, self._amount(capacity, self._desk.network.pipe(number).capacity)
             ).value
 
     def add(self, tail: str, head: str, capacity: Amount, name: str = "") -> Quantity:

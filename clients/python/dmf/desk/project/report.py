@@ -13,6 +13,7 @@ from collections.abc import Iterator
 from html import escape
 from pathlib import Path
 
+from ...quantity import magnitude
 from ...session import executable
 from ...session.base import Program
 from ...text.lexical import display
@@ -38,7 +39,7 @@ def checked(desk: Desk, program: Program = None) -> str:
     """Return what `dmf check` writes of the present flow: `c greatest 165`. Raise a `DeskFault` if
     it finds none."""
     network = desk.network
-    flows, measure = desk.flows(), network.measure
+    flows, measure = desk.arc_flows(), network.measure
     lines = [f"s {measure.whole(desk.value)}\n"]
     lines += (
         f"f {line.tail} {line.head} {flows[number - 1]}\n" for number, line in network.opened()
@@ -79,7 +80,8 @@ def _section(
 ) -> Section:
     """Return what is to be said of what a desk shows, whose steps begin with this one: of a
     scenario, if it is one."""
-    network = desk.network
+    network, cut = desk.network, [*desk.cut_arcs()]
+    limit = zip(cut, desk.flows_on(cut))
     picture, why = "", ""
     try:
         picture = readable(desk, LOW if scenario or Scenarios.of(desk) else HIGH)
@@ -93,9 +95,7 @@ def _section(
         desk.value,
         tuple((step.text, step.value) for step in made),
         tuple(step.text for step in scenario.left_out) if scenario else (),
-        tuple(
-            (network.names.arc(number), network.line(number).capacity) for number in desk.cut_arcs()
-        ),
+        tuple((network.names.arc(number), magnitude(flow)) for number, flow in limit),
         tuple(network.names.side(desk.side())),
         tuple(sorted(_demands(desk), key=lambda it: it.arrives - it.wanted)),
         differences,
@@ -121,7 +121,7 @@ def _sections(desk: Desk) -> Iterator[Section]:
 def _tried(desk: Desk) -> Tried:
     """Return what the arcs of the present state mean for its value."""
     network = desk.network
-    open_arcs = [number for number in network.pictured() if not network.line(number).is_closed]
+    open_arcs = network.opened_pipes()
     is_all = len(open_arcs) <= MOST_TRIED
     cut = list(desk.cut_arcs())
     numbers = list(dict.fromkeys([*cut, *open_arcs])) if is_all else cut[:MOST_TRIED]

@@ -36,6 +36,7 @@ REQUESTS = {
     "open": ("arc",),
     "cap": ("arc", "amount"),
     "add": ("ends", "amount"),
+    "add back": ("ends", "amount"),
     "shut": ("place",),
 }
 

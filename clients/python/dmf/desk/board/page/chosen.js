@@ -38,16 +38,21 @@ export async function showClosing() {
 /** @param {Arc} arc */
 function aboutArc(arc) {
   const is = arc.full ? "It is full" : arc.flow === "0" ? "Nothing flows here" : "It is not full";
-  const words = arc.closed ? "It is closed." : `${arc.flow} of ${arc.capacity}${units()} flow. ${is}`
+  const to = "<>".includes(arc.way) && arc.way ? ` to ${arc.way === "<" ? arc.tail : arc.head}` : "";
+  const other = arc.other_way ? `, and the other way ${arc.other_way}` : "";
+  const words = arc.closed ? "It is closed." : `${arc.flow} of ${arc.capacity}${units()} flow${to}${other}. ${is}`
     + (arc.limit ? ", and part of the limit: a wider one may bring more." : ", and no part of the limit: a wider one brings nothing.");
   /** @type {HTMLElement[]} */
-  const about = [make("h3", arc.short), make("p", `From ${arc.tail} to ${arc.head}. ${words}`)];
+  const about = [make("h3", arc.short), make("p", `${where(arc)}. ${words}`)];
   if (arc.closed) return [...about, button("Open it again", () => act({ what: "open", arc: arc.number }, `${arc.short} is open`))];
   return [...about, make("p", closingWords(arc), { id: "closing" }),
     button("Close it", () => act({ what: "close", arc: arc.number }, `${arc.short} is closed`)),
     button("Put a second one beside it", () => act({ what: "double", arc: arc.number }, `a second ${arc.short}`)),
-    setting(arc, "What it can carry", "capacity")];
+    setting(arc, arc.way ? "What it can carry each way" : "What it can carry", "capacity")];
 }
+
+/** @param {Arc} arc */
+const where = (arc) => (arc.way ? `Both ways between ${arc.tail} and ${arc.head}` : `From ${arc.tail} to ${arc.head}`);
 
 /**
  * Returns the form that changes an arc's capacity.

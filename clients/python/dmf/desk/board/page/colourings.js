@@ -1,6 +1,7 @@
 /**
  * The colourings of the picture, in one table that the picture, the legend and the table's filter share.
- * @typedef {{ number: number, state: string, use: number, change: string, width: number }} Mark what the board says about an arc's look
+ * @typedef {{ number: number, state: string, use: number, change: string, width: number, way: string }} Mark what the board says about an
+ *   arc's look
  * @typedef {{ words: string, ink: string, filter: string, isDashed?: boolean, has: (mark: Mark) => boolean }} Shade
  *   `ink` is a colour of the style, and `filter` the filter of the table that shows the same arcs, or empty if none does
  * @typedef {{ name: string, words: string, shades: () => Shade[] }} Colouring an arc has the first shade that fits it
@@ -88,7 +89,8 @@ export const colourings = () => ALL.filter((it) => it.name !== "worth" || losses
  * @param {string} signs a character for each field, as the board writes them
  * @returns {Mark}
  */
-export const markOf = (number, [state, use, change, width]) => ({ number, state, use: Number(use), change, width: Number(width) });
+export const markOf = (number, [state, use, change, width, way]) => (
+  { number, state, use: Number(use), change, width: Number(width), way });
 
 /**
  * @param {Shade[]} shades

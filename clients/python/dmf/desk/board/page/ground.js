@@ -4,7 +4,7 @@
  * @typedef {import("./colourings.js").Mark} Mark
  * @typedef {{ number: number, tail: number, head: number, from: [number, number], to: [number, number], aside: [number, number],
  *   mark: Mark }} Line
- *   where it begins and ends, and the direction and number of lanes by which it is moved aside from arcs with the same ends
+ *   where it begins and where it flows to, and the direction and number of lanes by which it is moved aside from arcs with the same ends
  * @typedef {{ node: number, name: string, x: number, y: number, look: string, isEnd: boolean }} Spot
  */
 import { choose, theChoice } from "./choice.js";
@@ -14,8 +14,8 @@ import { isPicked } from "./many.js";
 import { ask } from "./state.js";
 import { freeBox, scale, seenBox } from "./view.js";
 
-/** The look of an arc that does not exist now. */
-const NONE = " ";
+/** The look of an arc that does not exist now, and the way of one that flows from its head to its tail. */
+const NONE = " ", BACK = "<";
 /** The distance of arcs with the same ends, and how near a click has to be, in pixels; and the least scale, in pixels per unit, at which
  * names can be read. */
 const APART = 5, NEAR = 9;
@@ -57,7 +57,7 @@ export async function lookAtGround(isThere) {
   [...places.values()].forEach((place, number) => {
     place.look = told.places[number];
   });
-  const signs = (/** @type {number} */ place) => told.arcs[place] + told.uses[place] + told.changes[place] + told.widths[place];
+  const signs = (/** @type {number} */ place) => ["arcs", "uses", "changes", "widths", "ways"].map((text) => told[text][place]).join("");
   ground.lines = linesOf([...ends.map((one, place) => [...one, signs(place)]), ...told.added]);
   ground.usual = usualLength(ground.lines.map(({ from, to }) => Math.hypot(to[0] - from[0], to[1] - from[1])));
 }
@@ -78,7 +78,8 @@ function linesOf(arcs) {
     const from = /** @type {Spot} */ (places.get(tail)), to = /** @type {Spot} */ (places.get(head));
     const long = Math.hypot(to.x - from.x, to.y - from.y) || 1, by = (rank - (alike.length - 1) / 2) * (tail < head ? 1 : -1);
     const aside = [(to.y - from.y) / long * by, (from.x - to.x) / long * by], mark = markOf(number, signs);
-    return /** @type {Line} */ ({ number, tail, head, mark, aside, from: [from.x, from.y], to: [to.x, to.y] });
+    const [begin, end] = mark.way === BACK ? [to, from] : [from, to];
+    return /** @type {Line} */ ({ number, tail, head, mark, aside, from: [begin.x, begin.y], to: [end.x, end.y] });
   }));
 }
 

@@ -13,8 +13,8 @@ import { cover, nameSpot } from "./labels.js";
 import { shades } from "./legend.js";
 import { scale, seenBox } from "./view.js";
 
-/** The look of a place before the bottleneck, and of one that is shut. */
-const BEFORE = "b", SHUT = "s";
+/** The look of a place before the bottleneck, and of one that is shut; and the way of an arc in which nothing flows either way. */
+const BEFORE = "b", SHUT = "s", STILL = "-";
 /** The opacity of what a filter leaves out. */
 const FADED = 0.16;
 /** The most names; the size of letters, in pixels, and the height of a line for that; and the size of a shade, in units. */
@@ -73,7 +73,8 @@ function paintLines(pen, drawn, colour) {
     const shade = shadeOf(now, lines[0].mark), wide = by * thickness(lines[0].mark);
     pen.globalAlpha = key.startsWith("0") ? FADED : 1;
     stroke(pen, lines, colour(shade.ink), wide, shade.isDashed ? [5, 3] : []);
-    if (lines[0].mark.state !== "c") point(pen, lines, colour(wide < INSIDE ? shade.ink : "paper"), arrowSize(wide));
+    const pointed = lines.filter((line) => line.mark.way !== STILL);
+    if (lines[0].mark.state !== "c") point(pen, pointed, colour(wide < INSIDE ? shade.ink : "paper"), arrowSize(wide));
   }
   pen.globalAlpha = 1;
 }

@@ -65,7 +65,7 @@ function lost(arc, cell) {
  */
 export function fill(made, arc) {
   const marks = [arc.closed && "closed", arc.full && "full", arc.limit && "limit", arc.changed && !arc.closed && "changed"];
-  const [tick, ...cells] = made.cells, flow = arc.closed ? "" : arc.flow;
+  const [tick, ...cells] = made.cells, flow = arc.closed ? "" : arc.way === "<" ? `← ${arc.flow}` : arc.flow;
   const amounts = [flow, arc.capacity, use(arc), lost(arc, cells[LOST])];
   const texts = [arc.name || arc.label, arc.tail, arc.head, ...amounts, marks.filter(Boolean).join(", ")];
   for (const [column, cell] of cells.entries()) if (cell.textContent !== texts[column]) cell.textContent = texts[column];

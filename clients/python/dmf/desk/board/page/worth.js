@@ -71,6 +71,5 @@ function show(told) {
 export function closingWords(arc) {
   const { value } = present();
   if (!arc.without) return "";
-  const one = `Closing this: ${value} to ${arc.without}${units()}${arc.lost === "0" ? ", nothing lost." : "."}`;
-  return one + (arc.without_both ? ` Closing it both ways: ${value} to ${arc.without_both}${units()}.` : "");
+  return `Closing this: ${value} to ${arc.without}${units()}${arc.lost === "0" ? ", nothing lost." : "."}`;
 }

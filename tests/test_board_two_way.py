@@ -1,0 +1,166 @@
+"""What a page shows of pipes that lead both ways: one row and one line for each, whose arrow points
+to where it flows. Values are worked out by hand."""
+
+from __future__ import annotations
+
+import json
+import re
+from collections.abc import Iterator
+from typing import Any
+from xml.etree import ElementTree
+
+import pytest
+from dmf.desk.board.arrows import SVG
+from dmf.desk.board.layout import Spot
+from dmf.desk.board.overview import Overview
+from dmf.desk.board.routes import Board
+from dmf.desk.workspace import Desk
+from dmf.tables.loader import TableOptions, subject_of
+
+# 3 flow from A to B, and back over Main to C; nothing flows over `spare`.
+TABLE = """\
+from,to,capacity,name,direction
+A,B,5,one,->
+C,B,3,Main,<->
+A,C,2,by,->
+C,D,7,out,<->
+D,E,4,spare,<->
+"""
+
+
+@pytest.fixture
+def board() -> Iterator[Board]:
+    wanted = TableOptions(source=["A"], sink=["D"])
+    desk = Desk(subject_of(wanted, "main.csv", TABLE.encode()), with_solve=True)
+    try:
+        yield Board(desk)
+    finally:
+        desk.end()
+
+
+def told(board: Board, path: str, **words: str) -> Any:
+    return json.loads(board.get(path, words).body)
+
+
+def do(board: Board, what: str, **content: Any) -> Any:
+    body = {"what": what, "turn": board.desk.turn, **content}
+    return json.loads(board.post("do", body).body)
+
+
+def rows(board: Board, filter: str = "", sort: str = "") -> list[tuple[Any, ...]]:
+    found = told(board, "rows", filter=filter, sort=sort, first="0", count="99")["rows"]
+    return [(it["name"], it["flow"], it["capacity"], it["way"], it["changed"]) for it in found]
+
+
+def test_rows(board: Board) -> None:
+    """One row for each pipe, and what flows back is as much as what flows there."""
+    expected = [
+        ("one", "3", "5", "", False),
+        ("Main", "3", "3", "<", False),
+        ("by", "2", "2", "", False),
+        ("out", "5", "7", ">", False),
+        ("spare", "0", "4", "-", False),
+    ]
+    assert rows(board) == expected
+    assert [row[0] for row in rows(board, "flow > 2")] == ["one", "Main", "out"]
+    assert [row[0] for row in rows(board, "full")] == ["Main", "by"]
+    assert [row[0] for row in rows(board, "use = 100")] == ["Main", "by"]
+    assert [row[0] for row in rows(board, "to ~ C")] == ["Main", "by", "out"]
+    assert [row[0] for row in rows(board, sort="-flow")] == ["out", "one", "Main", "by", "spare"]
+    state = told(board, "state")
+    assert (state["arcs"], [it["short"] for it in state["limit"]]) == (5, ["Main", "by"])
+    assert told(board, "opened")["arcs"] == [1, 2, 4, 5, 7]
+
+
+def test_one_selection(board: Board) -> None:
+    """Both its arcs are the same pipe, which is closed, opened and capped at once, in one step."""
+    assert told(board, "arc", number="2") == told(board, "arc", number="3")
+    closed = do(board, "close", arc=3)
+    assert (closed["value"], closed["at"]) == ("2", 1)
+    assert [step["text"] for step in closed["steps"]][1:] == ["close Main"]
+    assert rows(board, "closed") == [("Main", "0", "3", "-", True)]
+    again = do(board, "open", arc=2)
+    assert (again["value"], again["at"]) == ("5", 2)
+    (number,) = told(board, "numbers", filter="Main", sort="", first="0", count="9")["numbers"]
+    capped = do(board, "cap-all", arcs=[number, 5], capacity="+1")
+    assert (capped["value"], capped["at"]) == ("6", 3)
+    assert rows(board, "changed") == [("out", "6", "8", ">", True), ("Main", "4", "4", "<", True)]
+    doubled = do(board, "double-all", arcs=[5])
+    assert (doubled["arcs"], doubled["value"]) == (6, "6")
+    many = json.loads(board.post("many", {"arcs": [1, number, 5], "turn": board.desk.turn}).body)
+    assert many["open"] == [1, number, 5]
+    assert many["capacity"] == "17"
+
+
+def test_places(board: Board) -> None:
+    """What comes in and goes out is told by the way that it flows."""
+    at_c = told(board, "place", node="3")
+    assert (at_c["name"], at_c["in"], at_c["out"]) == ("C", "5", "5")
+    at_d = told(board, "place", node="4")
+    assert (at_d["name"], at_d["in"], at_d["out"]) == ("D", "5", "0")
+
+
+def points(group: ElementTree.Element) -> list[tuple[float, float]]:
+    """Return the corners of the arrow of a line, its tip first."""
+    head = group.find(f"{{{SVG}}}polygon")
+    assert head is not None
+    if head.get("visibility") == "hidden":
+        return []
+    numbers = [float(it) for it in re.findall("-?[0-9.]+", head.get("points") or "")]
+    return list(zip(numbers[::2], numbers[1::2]))
+
+
+def groups(board: Board) -> dict[str, ElementTree.Element]:
+    root = ElementTree.fromstring(told(board, "picture", near="")["svg"])
+    return {group.get("id") or "": group for group in root.iter(f"{{{SVG}}}g")}
+
+
+def test_picture(board: Board) -> None:
+    """One line for each, whose arrow points to where it flows: from B to C on Main."""
+    board.picture.places.spots.update(
+        {1: Spot(0, 0), 2: Spot(300, 0), 3: Spot(0, 300), 4: Spot(300, 300), 5: Spot(600, 300)}
+    )
+    found = groups(board)
+    assert sorted(name for name in found if name.startswith("arc-")) == [
+        "arc-1",
+        "arc-2",
+        "arc-4",
+        "arc-5",
+        "arc-7",
+    ]
+    (tip, _), *others = points(found["arc-2"])
+    # C lies to the left of B.
+    assert all(tip < right for right, _ in others)
+    (tip, _), *others = points(found["arc-5"])
+    assert all(tip > right for right, _ in others)
+    assert points(found["arc-7"]) == []
+    title = found["arc-2"].find(f"{{{SVG}}}title")
+    assert title is not None and title.text == "Main, C <-> B: 3 of 3 to C, full, limit"
+    assert "closed" not in (found["arc-2"].get("class") or "")
+    do(board, "close", arc=2)
+    assert "closed" in (groups(board)["arc-2"].get("class") or "")
+
+
+def test_map(board: Board) -> None:
+    """On a map the second arc is not drawn, and each has the sign of the way that it flows."""
+    spots = {node: Spot(100.0 * node, 0) for node in range(1, 6)}
+    board.picture.places.spots.update(spots)
+    looks = Overview(board.desk, board.picture.places, board._looks).looks()
+    assert (looks["arcs"], looks["ways"]) == ("fl lf u ", "><" " >" "> " "- ")
+
+
+def test_sweep(board: Board) -> None:
+    """Each is tried once."""
+    found: list[Any] = []
+    left = told(board, "opened")["arcs"]
+    while left:
+        part = json.loads(board.post("sweep", {"arcs": left, "turn": board.desk.turn}).body)
+        found += part["trials"]
+        left = part["left"]
+    assert [(it["name"], it["without"]) for it in found] == [
+        ("one", "2"),
+        ("Main", "2"),
+        ("by", "3"),
+        ("out", "0"),
+        ("spare", "5"),
+    ]
