@@ -95,7 +95,7 @@ pub record HasRun (task : Task) (result : Result Status Fault) : Type 0 where
 abbrev pub MayRun : Task → Result Status Fault → Type 0
 MayRun task result = HasRun task result ⊎ (result ≡ Err no_memory)
 
--- How the program may end if a runner runs a task. Of a runner no more is known than this, so only its run shows it.
+-- How the program may end after a runner has run a task. Nothing else is known of a runner, so only its own run can show this.
 abbrev pub Running : Type 1
 Running = Task → Result Status Fault → Type 0
 
