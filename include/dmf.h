@@ -8,8 +8,8 @@
  * Who owns what.  A session is yours from the call that opens it, dmf_session_new or dmf_session_read, until you give it to
  * dmf_session_free. It is on the heap of malloc, and holds no file, thread or lock. Arrays and texts stay yours: a call
  * reads or writes the places that you lend it, and only while it runs.
- * Pointers.  Only a pointer beside a length of 0 may be NULL. What a call writes may not overlap anything else that the same
- * call is given. A length counts elements, and must be true.
+ * Pointers.  Only a pointer beside a length of 0 may be NULL, and that of dmf_session_free. What a call writes may not overlap
+ * anything else that the same call is given. A length counts elements, and must be true.
  * Threads.  One call at a time for a session; calls that take a const session count too. It need not be the same thread each
  * time. Calls for different sessions may run at the same time if malloc may. No call blocks or starts a thread, and none may
  * be made from a signal handler. After a fork each process has its own copy of the session; if other threads were running,
@@ -160,7 +160,7 @@ enum dmf_status dmf_session_new(uint32_t nodes, uint32_t source, uint32_t sink,
 enum dmf_status dmf_session_read(const uint8_t *text, size_t length, uint32_t past,
                                  dmf_session **session, uint64_t *line, uint32_t *fault);
 
-/* Frees a session, which must not be used or freed again. Takes no memory. */
+/* Frees a session, which must not be used or freed again: nothing checks that. Does nothing at NULL. Takes no memory. */
 void dmf_session_free(dmf_session *session);
 
 /* ---- Changes: each that is DMF_OK appends a state, drops the undone ones, and forgets the oldest past the bound -------- */
@@ -203,6 +203,17 @@ size_t dmf_session_arcs(const dmf_session *session);     /* how many arcs there 
  * DMF_BAD_LENGTH. */
 enum dmf_status dmf_session_flows(const dmf_session *session, uint64_t *flows, size_t count);
 enum dmf_status dmf_session_capacities(const dmf_session *session, uint64_t *capacities, size_t count);
+
+/* The ends, capacities and flows of arcs first .. first + count - 1, and which of them are closed: at index k each array has the
+ * number of arc first + k, and `closed` has 1 if that arc is closed, otherwise 0. Each length is `count`, or 0 for an array that
+ * is not wanted; otherwise the answer is DMF_BAD_LENGTH. DMF_NO_SUCH_ARC if `first` is 0, or if the last of these arcs is past
+ * dmf_session_arcs(session). */
+enum dmf_status dmf_session_arc_range(const dmf_session *session, uint64_t first, size_t count,
+                                      uint32_t *tails, size_t tail_count,
+                                      uint32_t *heads, size_t head_count,
+                                      uint64_t *capacities, size_t capacity_count,
+                                      uint64_t *flows, size_t flow_count,
+                                      uint8_t *closed, size_t closed_count);
 
 /* The side of the smallest minimum cut: side[v - 1] becomes 1 if every minimum cut has node v on the source's side, otherwise 0.
  * The arcs that leave the side are the limit: their capacities add up to the value. `count` is dmf_session_nodes(session), or

@@ -305,6 +305,16 @@ public:
         detail::expect_ok(dmf_session_capacities(live(), into.data(), into.size()));
     }
 
+    /// Writes the ends, capacities and flows of arcs first to first + count - 1, and 1 for a closed arc and 0 for an open one,
+    /// into arrays of `count` elements; an empty array is left out. Takes no memory. Throws error with bad_length or no_such_arc.
+    void arc_range(std::uint64_t first, std::size_t count, span<std::uint32_t> tails, span<std::uint32_t> heads,
+                   span<std::uint64_t> capacities = {}, span<std::uint64_t> flows = {},
+                   span<std::uint8_t> closed = {}) const {
+        detail::expect_ok(dmf_session_arc_range(live(), first, count, tails.data(), tails.size(), heads.data(), heads.size(),
+                                                capacities.data(), capacities.size(), flows.data(), flows.size(),
+                                                closed.data(), closed.size()));
+    }
+
     /// Returns the source side of the smallest minimum cut: 1 at index v - 1 if every minimum cut has node v on the source
     /// side, otherwise 0. The capacities of the arcs that leave it add up to the value. Throws error with not_greatest before a
     /// solve(), or std::bad_alloc.

@@ -176,6 +176,27 @@ class CSession:
         want(status)
         return tuple(int(number) for number in list(places)[:count])
 
+    def arc_range(self, first: int, count: int, lengths: Sequence[int]) -> list[tuple[int, ...]]:
+        """Return what the call puts into arrays of these lengths: tails, heads, capacities, flows
+        and marks. An array of length 0 is NULL. The place after the last of each array stays, and a
+        refused call puts nothing."""
+        kinds = (c_uint32, c_uint32, c_uint64, c_uint64, c_uint8)
+        places = [odd_array(kind, length) for kind, length in zip(kinds, lengths)]
+        before = list(map(bytes, places))
+        columns = [
+            part
+            for place, length in zip(places, lengths)
+            for part in (place if length else None, c_size_t(length))
+        ]
+        status = self.calls.dmf_session_arc_range(
+            self.session, c_uint64(first), c_size_t(count), *columns
+        )
+        for kind, place, odd in zip(kinds, places, before):
+            size = ctypes.sizeof(kind)
+            assert bytes(place)[-size:] == odd[-size:] and (status == 0 or bytes(place) == odd)
+        want(status)
+        return [tuple(map(int, place))[:-1] for place in places]
+
     def array(self, name: str) -> tuple[int, ...]:
         return self.filled(name, c_uint64, self.number("arcs"))
 

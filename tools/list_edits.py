@@ -72,7 +72,8 @@ REASONS = {
     "versions",
     "Session::new": "a body has no other history to give than the one that it gets",
     **{
-        f"dmf_session_{call} (unchanged)": READ_ONLY for call in (*C_NUMBERS, "flows", "capacities")
+        f"dmf_session_{call} (unchanged)": READ_ONLY
+        for call in (*C_NUMBERS, "flows", "capacities", "arc_range")
     },
     "Files::open": FOR_CALLERS,
     "Runner::run (task)": FOR_CALLERS,

@@ -156,6 +156,25 @@ void owning() {
     EXPECT(third.get() == nullptr && fourth.get() == handle && fourth.value() == 5);
 }
 
+void ranging() {
+    dmf::session session = example();
+    session.solve();
+    session.close(4);
+    std::vector<std::uint32_t> tails(3, 9), heads(3, 9);
+    std::vector<std::uint64_t> capacities(3, 9), flows(3, 9);
+    std::vector<std::uint8_t> closed(3, 9);
+    session.arc_range(2, 3, tails, heads, capacities, flows, closed);
+    EXPECT(tails == std::vector<std::uint32_t>{1, 2, 2} && heads == std::vector<std::uint32_t>{3, 3, 4});
+    EXPECT(capacities == numbers{2, 5, 0} && closed == std::vector<std::uint8_t>{0, 0, 1});
+    EXPECT(flows == numbers{2, 1, 0});
+    session.arc_range(3, 3, {}, heads);
+    EXPECT(heads == std::vector<std::uint32_t>{3, 4, 4} && tails[0] == 1);
+    REFUSED(bad_length, session.arc_range(1, 2, tails, {}));
+    REFUSED(no_such_arc, session.arc_range(0, 3, tails, {}));
+    REFUSED(no_such_arc, session.arc_range(4, 3, tails, {}));
+    EXPECT(tails == std::vector<std::uint32_t>{1, 2, 2});
+}
+
 // The arrays of a network without arcs may lie nowhere.
 void without_arcs() {
     dmf::session session(2, 1, 2, {}, std::vector<std::uint32_t>(), {nullptr, 0});
@@ -170,6 +189,7 @@ int main() {
     reading();
     judging();
     changing();
+    ranging();
     owning();
     without_arcs();
     EXPECT(dmf::abi() == DMF_ABI && dmf::version() == dmf_version());

@@ -74,6 +74,8 @@ static struct seen look(const dmf_session *session)
 /* What calls write. */
 struct outputs {
     uint64_t flows[MOST], capacities[MOST], place, line;
+    uint32_t tails[MOST], heads[MOST];
+    uint8_t closed[MOST];
     dmf_session *session;
     size_t bad_arc, length;
     uint32_t fault;
@@ -87,7 +89,7 @@ static struct outputs odd(void)
     return outputs;
 }
 
-enum step { SOLVE, FLOWS, SIDE, CHECK, CAP, ADD, SOLVE_AGAIN, PROBLEM, SOLUTION, UNDO, REDO, CLOSE, SHUT, STEPS };
+enum step { SOLVE, FLOWS, RANGE, SIDE, CHECK, CAP, ADD, SOLVE_AGAIN, PROBLEM, SOLUTION, UNDO, REDO, CLOSE, SHUT, STEPS };
 
 static enum dmf_status call(dmf_session *session, enum step step, struct outputs *to)
 {
@@ -96,6 +98,7 @@ static enum dmf_status call(dmf_session *session, enum step step, struct outputs
     case SOLVE:
     case SOLVE_AGAIN: return dmf_session_solve(session);
     case FLOWS: return dmf_session_flows(session, to->flows, ARCS);
+    case RANGE: return dmf_session_arc_range(session, 2, 3, to->tails, 3, to->heads, 3, to->capacities, 3, to->flows, 3, to->closed, 3);
     case SIDE: return dmf_session_side(session, to->side, NODES);
     case CHECK: return dmf_session_check(session, flows, ARCS, &to->place);
     case CAP: return dmf_session_cap(session, 5, 1);
@@ -124,6 +127,7 @@ static int is_written(enum step step, const struct outputs *to)
     static const char begin[] = "p max 4 6\n", value[] = "s 10\n";
     switch (step) {
     case FLOWS: return to->flows[0] == 3 && to->flows[ARCS - 1] == 3;
+    case RANGE: return to->tails[0] == 1 && to->heads[2] == 4 && to->capacities[1] == 5 && to->flows[1] == 1 && to->closed[2] == 0;
     case SIDE: return to->side[0] == 1 && to->side[NODES - 1] == 0;
     case CHECK: return to->place == 0;
     case PROBLEM: return to->length > sizeof begin && memcmp(to->text, begin, sizeof begin - 1) == 0;
@@ -202,6 +206,7 @@ static int run(long request)
     left = -1;
     dmf_session_free(session);
     dmf_session_free(other);
+    dmf_session_free(NULL);
     if (blocks != allocated)
         fail("not all is freed", request);
     return refused > before;

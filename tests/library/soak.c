@@ -146,8 +146,7 @@ int main(int count, char **words)
         }
     }
     dmf_session_free(old);
-    if (young != NULL)
-        dmf_session_free(young);
+    dmf_session_free(young);
     printf("%zu\n", in_use() - before);
     return 0;
 }

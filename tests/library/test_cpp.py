@@ -156,7 +156,7 @@ def test_each_call_and_number_of_the_c_header() -> None:
     """dmf.hpp makes each call of dmf.h, and has each status and each fault."""
     c, cpp = HEADER.read_text(), HEADER_CPP.read_text()
     calls = header_calls()
-    assert len(calls) == 25 and [call for call in calls if f"{call}(" not in cpp] == [
+    assert len(calls) == 26 and [call for call in calls if f"{call}(" not in cpp] == [
         "dmf_session_problem",
         "dmf_session_solution",
     ]

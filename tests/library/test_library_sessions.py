@@ -128,6 +128,7 @@ def compare(given: CSession, wanted: Session) -> None:
 
 def compare_texts_and_side(given: CSession, state: State) -> None:
     assert given.array("capacities") == tuple(arc.cap for arc in state.arcs)
+    compare_a_range(given, state)
     assert given.text("problem") == problem_text(state)
     assert given.text("solution") == solution_text(state)
     if is_greatest(state):
@@ -139,6 +140,17 @@ def compare_texts_and_side(given: CSession, state: State) -> None:
     with pytest.raises(Refused) as of_check:
         given.check(state.flows)
     assert of_side.value.status == of_check.value.status == 9
+
+
+def compare_a_range(given: CSession, state: State) -> None:
+    """Compare the middle half of the arcs, whose bounds vary with their number."""
+    rows = [
+        (arc.tail, arc.head, arc.cap, flow, int(arc.is_closed))
+        for arc, flow in zip(state.arcs, state.flows)
+    ]
+    begin, count = len(rows) // 4, len(rows) // 2
+    columns = given.arc_range(begin + 1, count, [count] * 5)
+    assert list(zip(*columns)) == rows[begin : begin + count]
 
 
 def run_session(

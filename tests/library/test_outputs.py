@@ -4,6 +4,7 @@ library's caller (c_library.py) looks at them."""
 from __future__ import annotations
 
 from ctypes import byref, c_size_t, c_uint8, c_uint64
+from itertools import product
 from pathlib import Path
 
 import pytest
@@ -118,6 +119,69 @@ def test_an_array_of_another_length(library: Library, name: str, count: int) -> 
         assert len(session.filled(name, c_uint64, ARCS)) == ARCS
 
 
+# The columns of the five arcs after a solve and `close 4`, which takes 2 off arcs 1 and 4.
+RANGE = (TAILS, HEADS, [3, 2, 5, 0, 3], [1, 2, 1, 0, 3], [0, 0, 0, 1, 0])
+
+
+def solved_and_closed(library: Library) -> CSession:
+    session = opened(library)
+    session.step("solve")
+    session.step("close", 4)
+    return session
+
+
+@pytest.mark.parametrize("first", range(1, ARCS + 2))
+def test_a_range_of_arcs(library: Library, first: int) -> None:
+    """Each range that begins here, with each choice of arrays."""
+    with solved_and_closed(library) as session:
+        before = state(session)
+        assert before[1:3] == (tuple(RANGE[3]), tuple(RANGE[2]))
+        for count in range(ARCS + 2 - first):
+            for wanted in product((False, True), repeat=len(RANGE)):
+                given = session.arc_range(first, count, [count * asked for asked in wanted])
+                assert given == [
+                    tuple(column[first - 1 : first - 1 + count]) if asked else ()
+                    for column, asked in zip(RANGE, wanted)
+                ]
+        assert state(session) == before
+
+
+@pytest.mark.parametrize(
+    ("first", "count"),
+    [
+        *((0, count) for count in (0, 1, ARCS)),
+        *((first, ARCS + 2 - first) for first in range(1, ARCS + 1)),
+        (ARCS + 2, 0),
+        (2**64 - 1, 0),
+        (2**64 - 1, 2),
+        (2**63, 1),
+    ],
+)
+def test_a_range_that_is_not_there(library: Library, first: int, count: int) -> None:
+    with solved_and_closed(library) as session:
+        for lengths in (count,) * 5, (0, count, 0, count, 0):
+            with pytest.raises(Refused) as refused:
+                session.arc_range(first, count, lengths)
+            assert refused.value.status == NO_SUCH_ARC
+        with pytest.raises(Refused) as refused:
+            session.arc_range(2, 2**64 - 1, (0,) * 5)
+        assert refused.value.status == NO_SUCH_ARC
+
+
+@pytest.mark.parametrize("which", range(5))
+@pytest.mark.parametrize("length", [1, 2, 4, ARCS])
+@pytest.mark.parametrize("first", [0, 1, ARCS])
+def test_a_range_with_an_array_of_another_length(
+    library: Library, which: int, length: int, first: int
+) -> None:
+    """The lengths are judged first, also where the range is not there."""
+    lengths = [3] * 5
+    lengths[which] = length
+    with solved_and_closed(library) as session, pytest.raises(Refused) as refused:
+        session.arc_range(first, 3, lengths)
+    assert refused.value.status == BAD_LENGTH
+
+
 @pytest.mark.parametrize("count", [0, 1, NODES - 1, NODES + 1])
 def test_a_side_of_another_length(library: Library, count: int) -> None:
     """Of a flow that is not greatest too: the length is judged first."""
@@ -226,6 +290,10 @@ def test_the_number_of_an_added_arc(library: Library) -> None:
             assert (session.array("flows")[-1], session.array("capacities")[-1]) == (0, number)
         session.step("undo", 3)
         assert session.number("arcs") == ARCS
+
+
+def test_no_session_is_freed(library: Library) -> None:
+    library.calls.dmf_session_free(None)
 
 
 def test_a_network_without_arcs(library: Library) -> None:

@@ -6,5 +6,6 @@ pub mod Building
 pub mod Built
 pub mod Opening
 pub mod Arrays
+pub mod Ranges
 pub mod FaultNumber
 pub mod Texts

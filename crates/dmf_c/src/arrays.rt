@@ -7,9 +7,10 @@ ghost use Rattle.dmf_c.specs.Arrays.{length_code, AreCapacities, AnswersSide, Ma
 
 use crate::code::refusal_code;
 use crate::handle::Handle;
+use crate::ranges::{copy_capacities, copy_flows};
 use dmf_session::{Command, Reply};
 use dmf_solver::greatest_is_optimal;
-use dmf_state::{Arc, Side};
+use dmf_state::Side;
 use std::alloc::Global;
 
 /// The flow on each arc.
@@ -24,7 +25,7 @@ pub extern "C" fn dmf_session_flows(session: &mut Handle, flows: &mut [u64]) -> 
     if flows.len() != present.flows().len() {
         return 10;
     }
-    flows.copy_from_slice(present.flows());
+    copy_flows(present.flows(), 1, flows);
     0
 }
 
@@ -40,17 +41,8 @@ pub extern "C" fn dmf_session_capacities(session: &mut Handle, capacities: &mut 
     if capacities.len() != present.arcs().len() {
         return 10;
     }
-    copy_capacities(present.arcs(), capacities);
+    copy_capacities(present.arcs(), 1, capacities);
     0
-}
-
-fn copy_capacities(arcs: &[Arc], capacities: &mut [u64])
-    requires { length capacities.old ≡ length arcs.now }
-    ensures { AreCapacities arcs.now capacities.new }
-{
-    for i in 0..arcs.len() {
-        capacities[i] = arcs[i].cap;
-    }
 }
 
 /// The side of the smallest minimum cut.

@@ -1,13 +1,24 @@
 ghost use Rattle.std.specs.Borrow.{sem};
+ghost use Rattle.std.specs.Ptr.{if_non_null};
 ghost use Rattle.dmf_c.specs.Owned.{owns_handle};
 ghost use Rattle.dmf_c.specs.declared.handle.Handle.{Handle as Owned};
 
 use crate::handle::Handle;
 use std::alloc::Global;
 
-/// Frees a session.
+/// Frees a session, and does nothing at NULL.
 #[unsafe(no_mangle)]
 pub unsafe extern "C" fn dmf_session_free(alloc: Global, session: *mut Handle)
+    ghost handle: { Owned }
+    requires* { sem 𝓛 (if_non_null session (owns_handle session handle)) }
+{
+    if session.is_null() {
+        return;
+    }
+    freed(alloc, session);
+}
+
+unsafe fn freed(alloc: Global, session: *mut Handle)
     ghost handle: { Owned }
     requires* { sem 𝓛 (owns_handle session handle) }
 {

@@ -10,6 +10,7 @@ mod freeing;
 mod handle;
 mod opening;
 mod plan;
+mod ranges;
 mod reading;
 mod slot;
 mod texts;
