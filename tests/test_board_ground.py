@@ -211,7 +211,7 @@ def test_pictures(driver: Any, tmp_path: Path, writes: bool) -> None:
             {"width": 1000, "height": 860, "deviceScaleFactor": 1, "mobile": False},
         )
         page = Page(driver, it.address)
-        for name, larger in ("board-map", 0), ("board-map-near", 7):
+        for name, larger in ("board-map", 0), ("board-map-near", 9):
             for _ in range(larger):
                 page.press("Larger")
             page.wait(

@@ -208,8 +208,8 @@ class Picture:
         network = self._desk.network
         splines = "line" if is_put and len(shape.nodes) > MOST_ROUTED else "true"
         yield (
-            f"digraph dmf {{\n  rankdir=LR; bgcolor=transparent; ranksep=0.2; nodesep=0.6; splines={splines}; "
-            "notranslate=true"
+            "digraph dmf {\n  rankdir=LR; bgcolor=transparent; ranksep=0.2; nodesep=0.6; "
+            f"splines={splines}; notranslate=true"
         )
         yield '  node [fontname="Helvetica"]\n  edge [fontname="Helvetica", fontsize=11]'
         if network.measure.legend:

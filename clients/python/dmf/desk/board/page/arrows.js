@@ -9,7 +9,8 @@ import { pointsOf } from "./ink.js";
 /** The least length of a line with an arrow, and the least thickness of one that has it inside, in pixels. */
 export const SHORT = 34, INSIDE = 5;
 /** The size of an arrow that is not inside its line, and how much thicker than its line the mark of a selected one is, in pixels. */
-const SIZE = 11, HALO = 8;
+const SIZE = 11;
+export const HALO = 8;
 
 /**
  * @param {SVGElement[]} parts

@@ -112,7 +112,7 @@ export class Ink {
   }
 
   /**
-   * Returns true if no other line is nearer to a box than the line of this part: otherwise the label would be read as the other's.
+   * Returns true if the line of this part is near a box, and no other line is nearer: otherwise the label would be read as the other's.
    * @param {Edges} box
    * @param {Element} part
    */
@@ -121,6 +121,6 @@ export class Ink {
       const found = partsIn(this.#fields, larger(box, by));
       if (found.length) return found.some((it) => it.part === part);
     }
-    return true;
+    return false;
   }
 }

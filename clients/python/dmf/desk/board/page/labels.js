@@ -11,6 +11,7 @@
  * @typedef {import("./spots.js").Taken} Taken
  * @typedef {import("./spots.js").Place} Place
  */
+import { HALO } from "./arrows.js";
 import { Boxes, edges } from "./boxes.js";
 import { pointsOf } from "./ink.js";
 import { freeSpot } from "./spots.js";
@@ -153,7 +154,7 @@ export function arrange(labels, scale, ground) {
     const by = Math.min(MOST, Math.max(LEAST, label.size * scale)) / (label.size * scale);
     const [right, down] = [label.width * scale * by / 2, label.height * scale * by / 2], own = ovals.get(label) ?? null;
     const isChosen = first(label) < 0, rings = RINGS.filter((ring) => isChosen || !label.oval && ring * down < FURTHEST * scale);
-    const half = ground.thicker * Number(label.part.style.getPropertyValue("--thick")) / 2;
+    const half = (ground.thicker * Number(label.part.style.getPropertyValue("--thick")) + (isChosen ? HALO : 0)) / 2;
     const found = spots(label, right, down, scale, half).concat(further(label, right, down, scale, rings));
     const spot = freeSpot(found, [right, down], now, { own, arc: label.oval ? undefined : label.part, isNeeded: first(label) <= NEEDED });
     if (spot) taken.add(edges(spot[0], spot[1], right, down));
