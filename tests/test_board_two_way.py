@@ -6,10 +6,13 @@ from __future__ import annotations
 import json
 import re
 from collections.abc import Iterator
+from pathlib import Path
 from typing import Any
 from xml.etree import ElementTree
 
 import pytest
+from board_pages import Page
+from board_running import board as running
 from dmf.desk.board.arrows import SVG
 from dmf.desk.board.layout import Spot
 from dmf.desk.board.overview import Overview
@@ -164,3 +167,21 @@ def test_sweep(board: Board) -> None:
         ("out", "0"),
         ("spare", "5"),
     ]
+
+
+def test_page(driver: Any, tmp_path: Path) -> None:
+    """A click on it shows both its ends and where it flows, and closes it as one."""
+    (tmp_path / "main.csv").write_text(TABLE)
+    with running("--source", "A", "--sink", "D", f"{tmp_path}/main.csv") as it:
+        page = Page(driver, it.address)
+        page.write("#text", "Main")
+        page.choose_found("Main")
+        page.wait(lambda: "Both ways between C and B. 3 of 3 flow to C." in page.text("#what"))
+        assert page.after(lambda: page.press("Close it")) == 2
+        page.wait(lambda: "It is closed." in page.text("#what"))
+        cells = (
+            "return [...document.querySelectorAll('#grid tbody td.name')].map(it => it.textContent)"
+        )
+        page.press("All")
+        names = ["one", "Main", "by", "out", "spare"]
+        page.wait(lambda: driver.execute_script(cells) == names)
