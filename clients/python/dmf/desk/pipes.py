@@ -85,8 +85,8 @@ class Pipes:
     """Which arcs of a desk are the two ways of one pipe."""
 
     def __init__(self, lines: ArcLines, partners: array[int]) -> None:
-        """`partners` has for each arc of the problem, by its number, the other way of its pipe, or
-        0; it is empty if no pipe leads both ways."""
+        """Keep which arcs are one pipe. `partners` has for each arc of the problem, by its number,
+        the other way of its pipe, or 0; it is empty if no pipe leads both ways."""
         self._lines = lines
         self._partners = partners
         # The partners of arcs that were added; and by its first number the present number of each
@@ -186,7 +186,7 @@ class Pipes:
     # How they follow.
 
     def tie(self, number: int) -> None:
-        """Have the arc that was added last be the way back of the one before it."""
+        """Make the arc that was added last the way back of the one before it."""
         self._added[number - 1], self._added[number] = number, number - 1
         self.are_two_way, self.of = True, self._of
 

@@ -36,7 +36,7 @@ def add_arrows(root: ElementTree.Element) -> None:
 
 
 def turn_arrow(group: ElementTree.Element, flow: Quantity) -> None:
-    """Have the arrow of a pipe that leads both ways point to where this net flow goes: back if it
+    """Turn the arrow of a pipe that leads both ways to where this net flow goes: back if it
     is below 0, and nowhere if nothing flows."""
     head = group.find(f"{{{SVG}}}polygon")
     if head is None or flow > 0:
