@@ -55,6 +55,16 @@ def entry(page: Page, words: str) -> Any:
     )
 
 
+def press(page: Page, words: str) -> None:
+    """Presses the button of the legend with these words by a click."""
+    page.act_on(lambda: entry(page, words), lambda found: found.click())
+
+
+def press_by_key(page: Page, words: str) -> None:
+    """Presses the button of the legend with these words by the space bar."""
+    page.act_on(lambda: entry(page, words), lambda found: found.send_keys(SPACE))
+
+
 def colour_by(page: Page, words: str) -> None:
     """Chooses what the picture is coloured by."""
     from selenium.webdriver.support.select import Select
@@ -135,14 +145,14 @@ def test_filter(driver: Any) -> None:
         page.press("All")
         driver.find_element("xpath", "//*[@role='tab' and text()='All']").click()
         for words in "full", "bottleneck", "80–99 %", "no flow":
-            entry(page, words).click()
+            press(page, words)
             filtered(page, it, lambda row: shade(row) == words)  # noqa: B023
             assert [name for name, (_, is_on) in entries(page).items() if is_on == "true"] == [
                 words
             ]
-        entry(page, "no flow").send_keys(SPACE)
+        press_by_key(page, "no flow")
         filtered(page, it, lambda row: True)
-        entry(page, "50–79 %").send_keys(SPACE)
+        press_by_key(page, "50–79 %")
         filtered(page, it, lambda row: shade(row) == "50–79 %")
         page.write("#filter", "capacity < 60")
         filtered(page, it, lambda row: int(row["capacity"]) < 60)
@@ -173,7 +183,7 @@ def test_what_changed(driver: Any) -> None:
         )
         wanted = {"closed": 1, "new": 1, "wider": 1, "narrower": 1, **moved}
         page.wait(lambda: counted(page) == wanted)
-        entry(page, "narrower").click()
+        press(page, "narrower")
         driver.find_element("xpath", "//*[@role='tab' and text()='All']").click()
         filtered(page, it, lambda row: bool(row["number"] == 12))
 
@@ -188,7 +198,7 @@ def test_what_is_lost(driver: Any) -> None:
         colour_by(page, words)
         wanted = banded(water())
         page.wait(lambda: counted(page) == {told: len(pipes) for told, pipes in wanted.items()})
-        entry(page, next(iter(wanted))).click()
+        press(page, next(iter(wanted)))
         numbers = {number for number, pipe in enumerate(water(), 1)}
         page.wait(lambda: faded(page) == numbers - next(iter(wanted.values())))
         page.choose("arc-9", "Mill Lane")

@@ -33,13 +33,15 @@ return labels.filter((text) => text.checkVisibility()).map((text) =>
 """
 
 
-# The parts of the picture that are seen whole, and have no label.
+# The parts of the picture that are seen whole and have no label, apart from lines shorter than a
+# label, beside which it may lie nearer to another part.
 BARE = """
 const box = (it) => it.getBoundingClientRect();
 const over = ["head", "foot", "panel", "fold"].map((id) => box(document.getElementById(id)));
 return [...document.querySelectorAll("#picture .unlabelled")].filter((part) => {
-  const { left, top, right, bottom } = box(part);
-  return left > 0 && top > 0 && right < innerWidth && bottom < innerHeight && over.every((it) =>
+  const { left, top, right, bottom } = box(part), isShort = Math.max(right - left, bottom - top) < 80;
+  const isSeen = left > 0 && top > 0 && right < innerWidth && bottom < innerHeight;
+  return isSeen && !isShort && over.every((it) =>
     it.left > right || it.right < left || it.top > bottom || it.bottom < top);
 }).map((part) => part.id);
 """
