@@ -186,5 +186,5 @@ def test_one_place_in_two_forms(tools: Tools, tmp_path: Path) -> None:
 
 
 def test_numbers_are_not_protected() -> None:
-    text = plan_table([ArcRow(1, "", "a", "b", -5, -5, True)], Measure(), raw_names=False)
-    assert text.splitlines()[1] == "1,,a,b,-5,-5,yes,yes"
+    text = plan_table([ArcRow(1, "", "a", "b", -5, 5, True)], Measure(), raw_names=False)
+    assert text.splitlines()[1] == "1,,a,b,-5,5,yes,yes"
