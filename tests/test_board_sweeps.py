@@ -41,7 +41,7 @@ def test_sweep_in_portions(tmp_path: Path) -> None:
     """The copies of the network go on from portion to portion, and end with the next change."""
     table = tmp_path / "large.csv"
     # A solve looks at all arcs of the source, so two portions do not reach the last case.
-    table.write_text("".join(f"S,P{n},{n % 7 + 1}\nP{n},T,{n % 5 + 1}\n" for n in range(40_000)))
+    table.write_text("".join(f"S,P{n},{n % 7 + 1}\nP{n},T,{n % 5 + 1}\n" for n in range(100_000)))
     count = 5_000
     with board(str(table)) as it:
         told = portion(it, list(range(1, count + 1)))

@@ -39,7 +39,8 @@ BARE = """
 const box = (it) => it.getBoundingClientRect();
 const over = ["head", "foot", "panel", "fold"].map((id) => box(document.getElementById(id)));
 return [...document.querySelectorAll("#picture .unlabelled")].filter((part) => {
-  const { left, top, right, bottom } = box(part), isShort = Math.max(right - left, bottom - top) < 80;
+  const { left, top, right, bottom } = box(part);
+  const isShort = Math.max(right - left, bottom - top) < 80;
   const isSeen = left > 0 && top > 0 && right < innerWidth && bottom < innerHeight;
   return isSeen && !isShort && over.every((it) =>
     it.left > right || it.right < left || it.top > bottom || it.bottom < top);
