@@ -421,9 +421,9 @@ def test_no_pairs(text: str) -> None:
     assert in_comments(text) == TwoWayArcs()
 
 
-def test_what_is_no_pair() -> None:
-    """Arcs that do not lead there and back are two, and so are those of which one is tied already,
-    or is not of the table."""
+def test_what_makes_a_pair() -> None:
+    """Two arcs are one pipe only if they join the same places in opposite directions and neither is
+    part of another pipe."""
     tails, heads = [1, 2, 1, 3, 2], [2, 1, 3, 2, 1]
 
     def found(*pairs: tuple[int, int], inner: tuple[int, ...] = ()) -> list[int]:

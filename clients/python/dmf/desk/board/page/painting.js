@@ -1,5 +1,5 @@
 /**
- * The layer behind the picture, painted on a canvas, since a picture with so many elements would be slow to move.
+ * The layer behind the picture: a canvas, since so many elements would be slow to move.
  * @typedef {import("./view.js").Box} Box
  * @typedef {import("./ground.js").Line} Line
  * @typedef {import("./ground.js").Spot} Spot
