@@ -120,3 +120,27 @@ def partners(
             if is_free and ends[:2] == ends[:1:-1]:
                 found[one], found[other] = other, one
     return found
+
+
+class TiedArcs:
+    """The arcs of a problem that are the two ways of one pipe, by their numbers."""
+
+    def __init__(self, partners: Sequence[int]) -> None:
+        """Keep them. `partners` is what the function of this name returns."""
+        self._partners = partners
+
+    def __bool__(self) -> bool:
+        return bool(self._partners)
+
+    def pair(self, number: int) -> tuple[int, int] | None:
+        """Return both arcs of the pipe that an arc is one way of, in order, or None."""
+        partner = self._partners[number] if number < len(self._partners) else 0
+        return (min(number, partner), max(number, partner)) if partner else None
+
+    def pairs(self) -> Iterator[tuple[int, int]]:
+        """Yield the arcs of each pipe that leads both ways."""
+        yield from ((it, other) for it, other in enumerate(self._partners) if it < other)
+
+    def among(self, numbers: Iterable[int]) -> TwoWayArcs:
+        """Return those among the arcs with these numbers, by their places from 1 on."""
+        return of_pairs(self.pairs()).among(numbers)

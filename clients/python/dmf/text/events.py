@@ -7,11 +7,12 @@ program: `{"told": "47.3", "raw": 473}`.
 from __future__ import annotations
 
 import json
-from collections.abc import Callable, Iterator, Sequence
+from collections.abc import Callable, Iterator, Mapping, Sequence
 from decimal import Decimal
 from typing import Any, Protocol
 
 from ..quantity import Measure, Quantity, magnitude, plain_text
+from .both_ways import TiedArcs
 from .lexical import display
 from .problem_text import ArcRecord
 from .session_replies import ChangedReply, CutReply, Event, FlowReply, PrintedReply, SolutionReply
@@ -47,6 +48,7 @@ class NameSource(Protocol):
     arcs: dict[int, str]
     measure: Measure
     folding: TableRoles
+    ties: TiedArcs
 
     def node(self, number: int) -> str:
         ...
@@ -71,7 +73,11 @@ class JsonWriter:
         measure = self.names.measure
         scale = {"unit": measure.told_unit, "scale": plain_text(measure.divisor)}
         if isinstance(event, SolutionReply):
-            arcs = [self._arc(*row) for row in zip(event.numbers, event.arcs, event.flows)]
+            flows = dict(zip(event.numbers, event.flows)) if self.names.ties else {}
+            arcs = [
+                {**self._arc(number, arc, flow), **self._both_ways(number, flows)}
+                for number, arc, flow in zip(event.numbers, event.arcs, event.flows)
+            ]
             return "solution", {
                 "value": self._number(event.value),
                 **scale,
@@ -87,7 +93,10 @@ class JsonWriter:
         if isinstance(event, CutReply):
             side, numbers = self.names.cut(event, self.follower.timeline.arcs)
             told = [*map(self.names.node, self.names.folding.places(side))]
-            arcs = [self._arc(it, self.follower.timeline.arcs[it - 1]) for it in numbers]
+            arcs = [
+                {**self._arc(it, self.follower.timeline.arcs[it - 1]), **self._both_ways(it)}
+                for it in numbers
+            ]
             return "cut", {
                 "capacity": self._number(event.capacity),
                 **scale,
@@ -124,6 +133,24 @@ class JsonWriter:
             "flow": None if flow is None else self._number(flow),
             "unlimited": bool(role and role.is_unlimited),
         }
+
+    def _both_ways(self, number: int, flows: Mapping[int, int] | None = None) -> Json:
+        """Return what is said of the pipe that leads both ways of which an arc is one way: its two
+        arcs, its capacity the way of each, and its net flow, below 0 if that goes back; nothing of
+        another arc."""
+        pair = self.names.ties.pair(number) if self.follower.is_numbered else None
+        if not pair:
+            return {}
+        first, second = pair
+        arcs = self.follower.timeline.arcs
+        net = None if flows is None else flows.get(first, 0) - flows.get(second, 0)
+        said = {
+            "arcs": [first, second],
+            "capacity": self._number(arcs[first - 1].capacity),
+            "capacity_back": self._number(arcs[second - 1].capacity),
+            "flow": None if net is None else self._number(net),
+        }
+        return {"both_ways": said}
 
 
 def case_line(row: Sequence[str], measure: Measure) -> str:

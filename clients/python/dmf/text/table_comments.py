@@ -34,7 +34,7 @@ from decimal import Decimal
 
 from ..quantity import SIGNS, Measure, Quantity
 from . import both_ways as ways
-from .both_ways import TwoWayArcs
+from .both_ways import TiedArcs, TwoWayArcs
 
 SOURCES, SINKS = "sources", "sinks"
 SUPPLY, DEMAND, LIMIT = "supply", "demand", "limit"
@@ -271,6 +271,11 @@ class TableRoles:
         """Return for each arc of the problem, by its number, the other way of its pipe, or 0;
         nothing if no pipe leads both ways."""
         return ways.partners(self._both_ways, tails, heads, self._inner, self.place)
+
+    def ties(self, arcs: Sequence[tuple[int, int, int]]) -> TiedArcs:
+        """Return which of the problem's arcs are the two ways of one pipe."""
+        told = arcs if self._both_ways else ()
+        return TiedArcs(self.partners([it[0] for it in told], [it[1] for it in told]))
 
     def at_role(self, role: Role, tail: int, head: int) -> bool:
         """Return True if an arc of the table with these ends carries what the place in a role gives

@@ -15,7 +15,10 @@ commands use:
 The numbers are those of the table that the problem was made from, with its
 unit, as far as comments give them. A place with a limit is shown as one place,
 and an arc that the table does not have by what it means: 'what Mill lets
-through', 'what Mill gives at most'.
+through', 'what Mill gives at most'. A pipe that leads both ways is one line, with
+the numbers of both its arcs, its net flow and where that goes:
+
+     3,4 Main, Mill <-> Town: 40 of 50 to Town
 
 PROBLEM may also be the table itself, with the options with which dmf-problem
 made the problem from it:
@@ -37,7 +40,7 @@ from __future__ import annotations
 
 import argparse
 import sys
-from collections.abc import Iterator
+from collections.abc import Iterator, Mapping
 from typing import TYPE_CHECKING
 
 from ..files import cannot, standard_input
@@ -83,6 +86,7 @@ class AnswerNames:
         self.measure = problem.described.measure
         self.folding = TableRoles(problem.described)
         self.ends_of_problem = problem.source, problem.sink
+        self.ties = self.folding.ties(problem.arcs)
 
     def node(self, number: int) -> str:
         place = self.folding.place(number)
@@ -97,6 +101,11 @@ class AnswerNames:
         """Return an arc's name and its ends."""
         name, ends = self.arcs.get(number), self.ends(arc.tail, arc.head)
         return ends if name is None or self.folding.role(arc.tail, arc.head) else f"{name}, {ends}"
+
+    def pipe(self, first: int, there: ArcRecord) -> str:
+        """Return the name and the ends of a pipe that leads both ways, by the first of its arcs."""
+        ends = f"{self.node(there.tail)} <-> {self.node(there.head)}"
+        return f"{self.arcs[first]}, {ends}" if first in self.arcs else ends
 
     def cut(self, cut: CutReply, arcs: list[ArcRecord]) -> tuple[list[int], list[int]]:
         """Return the side of a cut and the numbers of its arcs, without unlimited sources and
@@ -117,7 +126,7 @@ class AnswerNames:
         """Yield the comments that describe a printed problem's table and its columns, and its
         names, with the numbers that the arcs have there."""
         ends = (arc[:2] for arc in printed.problem.arcs)
-        tied = self.described.both_ways.among(printed.numbers or ())
+        tied = self.ties.among(printed.numbers or ())
         yield from table_comments(renumbered(self.described, ends, tied)).splitlines()
         for number, name in sorted(self.nodes.items()):
             if 1 <= number <= printed.problem.node_count:
@@ -134,13 +143,21 @@ class Telling:
     def __init__(self, names: AnswerNames, follower: TranscriptReader) -> None:
         self.names = names
         self.follower = follower
+        pairs = names.ties.pairs()
+        self._width_of_pairs = max((len(f"{it},{other}") for it, other in pairs), default=0)
 
     def tell(self, event: Event) -> Iterator[str]:
         """Yield the lines for an event."""
         text, told = self.names.measure.text, self.names.measure.told
         if isinstance(event, SolutionReply):
             yield f"value {told(event.value)}"
+            flows = dict(zip(event.numbers, event.flows)) if self.names.ties else {}
             for number, arc, flow in zip(event.numbers, event.arcs, event.flows):
+                if pair := self.pair(number):
+                    # A pipe stands where the first of its open arcs does.
+                    if number == pair[0] or pair[0] not in flows:
+                        yield self.flow_of_pipe(pair, flows)
+                    continue
                 role = self.names.folding.role(arc.tail, arc.head)
                 most = ", no limit" if role and role.is_unlimited else f" of {text(arc.capacity)}"
                 yield f"{self.arc(number, arc)}: {text(flow)}{most}"
@@ -154,7 +171,10 @@ class Telling:
             )
             for number in numbers:
                 arc = self.follower.timeline.arcs[number - 1]
-                yield f"{self.arc(number, arc)}: {text(arc.capacity)}"
+                pair = self.pair(number)
+                to = f" to {self.names.node(arc.head)}" if pair else ""
+                told_arc = self.pipe(pair) if pair else self.arc(number, arc)
+                yield f"{told_arc}: {text(arc.capacity)}{to}"
         elif isinstance(event, PrintedReply):
             yield from self.names.comments(event)
             yield from (line.decode(errors="replace") for line in event.lines)
@@ -191,8 +211,33 @@ class Telling:
         """Return an arc with its number, if the number is known."""
         if not self.follower.is_numbered:
             return f"  {self.names.ends(arc.tail, arc.head)}"
-        width = len(str(len(self.follower.timeline.arcs)))
-        return f"  {number:>{width}} {self.names.arc(number, arc)}"
+        return f"  {number:>{self.width()}} {self.names.arc(number, arc)}"
+
+    def width(self) -> int:
+        """Return how wide numbers are: those of arcs, or of two as in `3,4` if some are tied."""
+        one = len(str(len(self.follower.timeline.arcs)))
+        return max(one, self._width_of_pairs)
+
+    def pair(self, number: int) -> tuple[int, int] | None:
+        """Return both arcs of the pipe that an arc is one way of, if that is known."""
+        return self.names.ties.pair(number) if self.follower.is_numbered else None
+
+    def pipe(self, pair: tuple[int, int]) -> str:
+        """Return a pipe that leads both ways with the numbers of its arcs."""
+        first, second = pair
+        told = self.names.pipe(first, self.follower.timeline.arcs[first - 1])
+        return f"  {f'{first},{second}':>{self.width()}} {told}"
+
+    def flow_of_pipe(self, pair: tuple[int, int], flows: Mapping[int, int]) -> str:
+        """Return the line for a pipe that leads both ways, from the flows on open arcs."""
+        from ..desk.pipes import amounts
+        from .tied_pipes import pipe_of
+
+        pipe = pipe_of(pair, self.follower.timeline.arcs, self.names.measure)
+        there, back = (flows.get(number, 0) for number in pair)
+        net = self.names.measure.quantity(there - back)
+        ends = self.names.node(pipe.tail), self.names.node(pipe.head)
+        return f"{self.pipe(pair)}: {amounts(pipe, net, ends)}"
 
 
 def table(names: AnswerNames, follower: TranscriptReader) -> str:
@@ -234,7 +279,7 @@ def table(names: AnswerNames, follower: TranscriptReader) -> str:
         lambda number: names.arcs.get(number, ""),
         names.ends_of_problem,
         names.subject.extra,
-        both_ways=tuple(names.described.both_ways.among(solution.numbers).pairs()),
+        both_ways=tuple(names.ties.among(solution.numbers).pairs()),
     )
     return plan_text(arcs, told, names.measure, raw_names=names.subject.raw_names)
 
