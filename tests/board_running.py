@@ -8,6 +8,7 @@ import json
 import signal
 import subprocess
 from collections.abc import Callable, Iterator
+from pathlib import Path
 from typing import Any, Optional
 from urllib.parse import urlsplit
 
@@ -18,15 +19,17 @@ JSON = {"Content-Type": "application/json"}
 
 
 class Board:
-    """A running board, and requests to it."""
+    """A running board, and requests to it. It is started in the folder `cwd`."""
 
-    def __init__(self, *words: str, preexec: Callable[[], None] = heed_interrupts) -> None:
+    def __init__(
+        self, *words: str, preexec: Callable[[], None] = heed_interrupts, cwd: Path = ROOT
+    ) -> None:
         self.process = subprocess.Popen(
             [ROOT / "tools/dmf-board", "--no-browser", *words],
             stdout=subprocess.PIPE,
             stderr=subprocess.PIPE,
             text=True,
-            cwd=ROOT,
+            cwd=cwd,
             preexec_fn=preexec,
         )
         assert self.process.stdout
@@ -101,8 +104,10 @@ class Board:
 
 
 @contextlib.contextmanager
-def board(*words: str, preexec: Callable[[], None] = heed_interrupts) -> Iterator[Board]:
-    made = Board(*words, preexec=preexec)
+def board(
+    *words: str, preexec: Callable[[], None] = heed_interrupts, cwd: Path = ROOT
+) -> Iterator[Board]:
+    made = Board(*words, preexec=preexec, cwd=cwd)
     try:
         yield made
     finally:

@@ -28,9 +28,9 @@ ACTED_ON = {
     "grid",
     "columnheader",
 }
-# The ratio of contrast of two colours is as WCAG 2.1 has it. Each text that is seen is told with
+# The ratio of contrast of two colours is as WCAG 2.1 has it. Each text that is seen is noted with
 # its ratio, and whether it is large.
-CONTRAST = """
+TEXTS = """
 const probe = document.createElement("canvas").getContext("2d", { willReadFrequently: true });
 function rgba(colour) {
   probe.clearRect(0, 0, 1, 1);
@@ -67,6 +67,8 @@ for (const element of document.querySelectorAll("body *")) {
   const colour = element instanceof SVGElement ? looks.fill : looks.color;
   found.push([element.outerHTML.slice(0, 150), ratio(colour, behind(element)), isLarge]);
 }
+"""
+CONTRAST = f"""{TEXTS}
 const paper = getComputedStyle(document.getElementById("picture")).backgroundColor;
 const lines = ["#picture .cut path:not(.wide)", "#picture .unused path:not(.wide)"];
 const marks = [...lines, "#picture .chosen path.wide"]

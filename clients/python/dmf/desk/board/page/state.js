@@ -18,6 +18,7 @@ import { heard, ONCE } from "./asking.js";
 import { at, button, dropTyped } from "./elements.js";
 import { heedLeaving, live } from "./live.js";
 import { hasTrouble, news, patiently, trouble } from "./messages.js";
+import { isShut, openControls, shutControls } from "./shutting.js";
 import { sentence, upper } from "./words.js";
 
 /** @type {State | null} */
@@ -25,11 +26,6 @@ let state = null;
 let acting = false, newest = 0;
 /** How many actions, and displays of a state, have not ended. */
 let pending = 0;
-/**
- * The controls that were disabled because the board cannot be reached.
- * @type {HTMLElement[]}
- */
-let shut = [];
 /** @type {((state: State, before: State | null) => unknown)[]} */
 const watchers = [];
 /** What the parts of the page request after each state. The latest address of each path is remembered. */
@@ -100,30 +96,18 @@ export async function ask(path, content, isQuiet = false) {
 
 /** Says that the board cannot be reached, and disables everything except the button that tries again. */
 function lost() {
-  if (shut.length) return;
+  if (isShut()) return;
   letGo();
-  shut = [...document.querySelectorAll("button:enabled, select:enabled, input:enabled")].map((it) => /** @type {HTMLElement} */ (it));
-  for (const it of shut) put(it, true);
+  shutControls();
   const kept = state?.kept_in ? `Each step is in ${state.kept_in}.` : "The steps on this page are not kept: there they can still be read.";
   trouble(`The board does not answer. Where it has ended, start it again with “dmf-board ${state?.title ?? "FILE"}”, and open the address `
     + `that it tells. ${kept} What you typed stays here.`, button("Look again", lookAgain));
 }
 
-/**
- * Disables a control, or enables it. What was typed into it can still be read and copied.
- * @param {HTMLElement} it
- * @param {boolean} isShut
- */
-function put(it, isShut) {
-  if (it instanceof HTMLInputElement) it.readOnly = isShut;
-  else it.toggleAttribute("disabled", isShut);
-}
-
 /** Goes on if the board can be reached again. What was requested meanwhile did not come, so the state is shown again. */
 async function lookAgain() {
   if (!await heard("state")) return;
-  for (const it of shut) put(it, false);
-  shut = [];
+  openControls();
   trouble("");
   letGo = follow();
   await renew(true);
