@@ -16,6 +16,7 @@ from desk_shared import (
     SCRIPT,
     SECONDS,
     STORY,
+    Pipe,
     desk_of,
     greatest,
     run,
@@ -46,6 +47,13 @@ LINES = {
     "drop": "no trial is open; `try` begins one",
     "cut": "the flow is not greatest",
     "add Mill Statoin 5": "no place is called 'Statoin'; is it 'Station'",
+    "add Mill Newtown 5": "no place is called 'Newtown'; `--new` before its name makes a new place",
+    "add Mill --new Market 5": "a place called 'Market' already exists",
+    "add Mill --new mill 5": "a place called 'Mill' already exists",
+    "add Mil --new Newtown 5": "no place is called 'Mil'; is it 'Mill'",
+    "add --new Hill --new hill 5": "two new places cannot both be called 'Hill'",
+    "add --new #3 Mill 5": "'#3' cannot be the name of a place",
+    "add --new Hill": "usage: add [--new] PLACE [--new] PLACE NUMBER [NAME]",
     "cap Mill-Market 99999999999999999999": "is past 18446744073709551615",
     "cap Mill-Market 18446744073709551615": "the sum of the capacities would be past "
     "18446744073709551615",
@@ -54,6 +62,31 @@ LINES = {
     "what-if solve": "usage: what-if",
     "open": "nothing is closed",
 }
+
+
+def test_new_places(tmp_path: Path) -> None:
+    """A script makes a place by a word, and what is saved has it."""
+    script = f"""add --new Tank 2 --new New Town 10 Main
+add Mill --new "Hill Farm" 50
+add Hill Farm Harbour 30
+solve
+save {tmp_path}/plan.csv
+undo 3
+places
+"""
+    ran = run("dmf-plan", PIPES, typed=script)
+    pipes = [
+        *water(),
+        Pipe("Tank 2", "New Town", 10, "Main"),
+        Pipe("Mill", "Hill Farm", 50, ""),
+        Pipe("Hill Farm", "Harbour", 30, ""),
+    ]
+    assert (ran.returncode, f"value {greatest(pipes)} litres" in ran.stdout) == (0, True), ran
+    assert "  Tank 2: 0 in, 0 out\n" in ran.stdout and "Hill Farm:" not in ran.stdout, ran
+    again = run("dmf-plan", f"{tmp_path}/plan.csv", typed="solve\nplaces\n")
+    assert (
+        f"value {greatest(pipes)} litres" in again.stdout and "Hill Farm: " in again.stdout
+    ), again
 
 
 def test_scripts() -> None:

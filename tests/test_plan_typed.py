@@ -80,6 +80,39 @@ class Terminal:
         return status
 
 
+def test_new_place(tmp_path: Path) -> None:
+    """A place that does not exist is made only if the answer is yes. The near ones are named."""
+    terminal = Terminal(str(tmp_path))
+    terminal.wait("165, greatest> ")
+    question = "There is no place called 'New Town'. Make it? [y/n] "
+    for typed, asked, answer, told in (
+        ("add Mill New Town 50", question, "", "no place is called 'New Town'"),
+        ("add Mill New Town 50", question, "y", "value 165 litres per second, the greatest"),
+        ("add New Town Harbour 30", "", "", "value 165 litres per second; more can be sent: solve"),
+        ("solve", "", "", "value 180 litres per second, 15 more, the greatest"),
+        (
+            "add Mill Statoin 5",
+            "There is no place called 'Statoin', but there is 'Station'. Make 'Statoin'? [y/n] ",
+            "no",
+            "no place is called 'Statoin'; is it 'Station'?",
+        ),
+        (
+            "add Foxhole Quay 5",
+            "There is no place called 'Foxhole' and no place called 'Quay'. Make them? [y/n] ",
+            "yes",
+            "value 180 litres per second, the greatest",
+        ),
+        ("add Quay --new Tarn 5", "", "", "value 180 litres per second, the greatest"),
+    ):
+        terminal.type(f"{typed}\n")
+        if asked:
+            terminal.wait(asked)
+            terminal.type(f"{answer}\n")
+        assert told in terminal.wait("greatest> "), typed
+    terminal.type("quit\n")
+    assert terminal.end() == 0
+
+
 def test_broken_off() -> None:
     """Ctrl-C ends a command that would run on, at once, and the steps before it are there."""
     with tempfile.TemporaryDirectory() as folder:

@@ -12,7 +12,7 @@ import pytest
 from c_library import library_file
 from dmf.desk.project.opener import project_desk
 from dmf.desk.project.scenarios import Scenarios, project_of
-from dmf.desk.steps import DeskFault
+from dmf.desk.steps import DeskFault, MakePlace, Place
 from dmf.desk.workspace import Desk
 from dmf.errors import Refused
 from dmf.tables.loader import LoadedProblem
@@ -78,7 +78,9 @@ class Player:
         refused."""
         place = self.desk.network.names.place
         if word == "add":
-            ends = [place(self.name(number)) for number in numbers[:2]]
+            ends: list[Place | MakePlace] = [
+                MakePlace(it) if isinstance(it, str) else place(self.name(it)) for it in numbers[:2]
+            ]
             self.desk.add(ends[0], ends[1], numbers[2])
         elif word == "shut":
             self.desk.shut(place(self.name(numbers[0])))
@@ -87,8 +89,10 @@ class Player:
             getattr(owner, word)(*numbers)
 
     def name(self, number: int) -> str:
-        """Return the place of a number."""
-        return self._names[number - 1]
+        """Return the place of a number: one of the table, or one that was made."""
+        count = len(self._names)
+        made = self.desk.network.names.made
+        return self._names[number - 1] if number <= count else made[number]
 
     def told(self) -> tuple[object, ...]:
         """Return all that the desk tells of its present state, by numbers."""
@@ -106,6 +110,7 @@ class Player:
             values,
             desk.at - 1,
             desk.trials,
+            [*desk.network.names.made.items()],
         )
 
 
@@ -119,7 +124,14 @@ def expected(model: DeskModel) -> tuple[object, ...]:
     cut = now.cut()
     assert cut is not None
     values = [state.network.value() for state in model.scenario.states[1:]]
-    return now.network.value(), told, cut[2], cut[0], values, model.scenario.at, len(model.floors)
+    made = [*enumerate(now.made, now.network.nodes - len(now.made) + 1)]
+    at, trials = model.scenario.at, len(model.floors)
+    return now.network.value(), told, cut[2], cut[0], values, at, trials, made
+
+
+def new_or(random: Random, node: int) -> int | str:
+    """Return a node or, seldom, the name of a place to be made, which may be there."""
+    return f"new {random.randrange(4)}" if random.random() < 0.15 else node
 
 
 def numbers_for(random: Random, model: DeskModel, word: str) -> list[Any]:
@@ -141,7 +153,7 @@ def numbers_for(random: Random, model: DeskModel, word: str) -> list[Any]:
         "close": [arc],
         "open": [arc],
         "cap": [arc, amount],
-        "add": [*nodes, amount],
+        "add": [*(new_or(random, node) for node in nodes), amount],
         "shut": nodes[:1],
         "undo": [count],
         "redo": [count],

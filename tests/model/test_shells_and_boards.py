@@ -49,7 +49,11 @@ class ShellPlayer(Player):
     def _line(self, word: str, *numbers: Any) -> str:
         """Return what is typed for an act."""
         if word == "add":
-            return f"add {self.name(numbers[0])} {self.name(numbers[1])} {numbers[2]}"
+            tail, head = (
+                f'--new "{it}"' if isinstance(it, str) else f'"{self.name(it)}"'
+                for it in numbers[:2]
+            )
+            return f"add {tail} {head} {numbers[2]}"
         if word == "shut":
             return f"shut {self.name(numbers[0])}"
         if word in ("close", "open", "cap"):
@@ -69,6 +73,10 @@ class BoardPlayer(Player):
         super().__init__(desk, names)
 
     def act(self, word: str, *numbers: Any) -> None:
+        if word == "add" and isinstance(numbers[0], str):
+            # A page adds arcs from a place that is there.
+            super().act(word, *numbers)
+            return
         asked = self._asked(word, *numbers) | {"turn": self.desk.turn}
         answer = self._board.post("do", asked)
         told = json.loads(answer.body)
@@ -90,8 +98,10 @@ class BoardPlayer(Player):
             by = numbers[0] if word == "redo" else -numbers[0]
             return {"what": "go", "step": self.desk.at - 1 + by}
         if word == "add":
-            ends = {"tail": numbers[0], "head": self.name(numbers[1])}
-            return {"what": "add", **ends, "capacity": str(numbers[2]), "name": ""}
+            is_new = isinstance(numbers[1], str)
+            ends = {"tail": numbers[0], "head": numbers[1] if is_new else self.name(numbers[1])}
+            what = "add-new" if is_new else "add"
+            return {"what": what, **ends, "capacity": str(numbers[2]), "name": ""}
         if word == "shut":
             return {"what": "shut", "node": numbers[0]}
         capacity = {"capacity": str(numbers[1])} if word == "cap" else {}

@@ -4,7 +4,7 @@ another but by the second implementation."""
 from __future__ import annotations
 
 from dataclasses import dataclass, field, replace
-from typing import NamedTuple
+from typing import Any, NamedTuple
 
 from oracle import changes
 from oracle.network import State, is_greatest, smallest_side
@@ -16,11 +16,26 @@ UNBOUNDED = 1_000_000
 
 class Whole(NamedTuple):
     """A state of a network: the arcs with their flow; the capacity of each, or that which it had
-    when it was closed; and the closed arcs that were opened again, each as another one."""
+    when it was closed; the closed arcs that were opened again, each as another one; and the names
+    of the places that were made, whose nodes are the last ones."""
 
     network: State
     rooms: tuple[int, ...]
     replaced: frozenset[int] = frozenset()
+    made: tuple[str, ...] = ()
+
+    def with_places(self, *ends: int | str) -> tuple[Whole, list[int]]:
+        """Return the state in which the ends that are texts are made, each as one more node without
+        arcs, and the nodes of all ends. Raises a `Fault` if one is there."""
+        network, made, nodes = self.network, self.made, list[int]()
+        for end in ends:
+            if isinstance(end, str):
+                if end in made:
+                    raise Fault("the place is there")
+                network, made = replace(network, nodes=network.nodes + 1), (*made, end)
+                end = network.nodes
+            nodes.append(end)
+        return self._replace(network=network, made=made), nodes
 
     def changed(self, word: str, *numbers: int) -> Whole:
         """Return the state after a command of a session, or after `open`. Raises the `Fault` for
@@ -30,11 +45,12 @@ class Whole(NamedTuple):
             (number,) = numbers
             arc = before.arcs[number - 1]
             after = changes.add(before, arc.tail, arc.head, self.rooms[number - 1])
-            return Whole(after, (*self.rooms, self.rooms[number - 1]), self.replaced | {number})
+            rooms = (*self.rooms, self.rooms[number - 1])
+            return Whole(after, rooms, self.replaced | {number}, self.made)
         after = CHANGES[word](before, *numbers)
         old = (*self.rooms, 0)
         rooms = tuple(old[at] if arc.is_closed else arc.cap for at, arc in enumerate(after.arcs))
-        return Whole(after, rooms, self.replaced)
+        return Whole(after, rooms, self.replaced, self.made)
 
     def judge_open(self, number: int) -> None:
         """Raise a `Fault` if an arc is open."""
@@ -133,8 +149,8 @@ class DeskModel:
     def _take(self, **changes: object) -> None:
         self.scenarios[self.present] = replace(self.scenario, **changes)
 
-    def step(self, word: str, *numbers: int) -> None:
-        now = self.scenario
+    def step(self, word: str, *numbers: Any) -> None:
+        now, state = self.scenario, self.scenario.now
         if word == "open":
             now.now.judge_open(*numbers)
             # To a desk the arc is the new one from then on.
@@ -144,7 +160,11 @@ class DeskModel:
             numbers[0] in arc[:2] for arc, _ in now.now.network.open_arcs()
         ):
             raise Fault("no arc is open there")
-        after = now.now.changed(word, *numbers).changed("solve")
+        given = numbers
+        if word == "add":
+            state, ends = state.with_places(*numbers[:2])
+            given = *ends, numbers[2]
+        after = state.changed(word, *given).changed("solve")
         self._take(
             states=(*now.states[: now.at + 1], after),
             acts=(*now.acts[: now.at], (word, *numbers)),

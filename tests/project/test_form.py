@@ -98,8 +98,8 @@ def test_half_a_file(path: str) -> None:
         ),
         (
             lambda it: it["scenarios"][0]["steps"][1]["requests"].append(["burn", "Mill"]),
-            "scenarios[0].steps[1].requests[4] is not one of close, open, cap, add, add back, shut "
-            "with its arguments",
+            "scenarios[0].steps[1].requests[4] is not one of close, open, cap, add, add back, "
+            "shut, make with its arguments",
         ),
         (
             lambda it: it["scenarios"][0]["steps"][0]["requests"].append(["close", ["Mill"]]),

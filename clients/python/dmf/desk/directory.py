@@ -11,7 +11,7 @@ from ..text.spelling import cleaned, folded, near, numbers_by_name, quoted_name
 from ..text.table_comments import Role, TableRoles, listed, role_phrase, role_words
 from .arc_lines import ArcLines
 from .pipes import Pipes
-from .steps import DeskFault, Node, Place
+from .steps import DeskFault, Node, Place, UnknownPlace
 
 MOST_LISTED = 6
 # The separators between the ends of an arc that is named by them, the longest first.
@@ -53,11 +53,58 @@ class Directory:
         self.is_any_case = False
         self._node_names = node_names
         self._nodes = nodes
+        # The names of the places that were made, whose nodes are those after the table's.
+        self.made_names: tuple[str, ...] = ()
 
     @cached_property
     def nodes(self) -> dict[Node, int]:
         """Return the nodes, each with its number."""
         return {node: number for number, node in enumerate(self._nodes, 1)}
+
+    @property
+    def given_count(self) -> int:
+        """Return how many nodes the problem has."""
+        return len(self._node_names)
+
+    @property
+    def node_count(self) -> int:
+        """Return how many nodes there are with those of the places that were made."""
+        return self.given_count + len(self.made_names)
+
+    @property
+    def made(self) -> dict[int, str]:
+        """Return the names of the places that were made, by their nodes."""
+        return dict(enumerate(self.made_names, self.given_count + 1))
+
+    def add_spare(self, node: Node) -> None:
+        """Take in a node that a place can be made of."""
+        self.nodes[node] = len(self.nodes) + 1
+
+    def call(self, made: tuple[str, ...]) -> None:
+        """Take as the places that were made those with these names."""
+        labels, called, places = self._labels, self._called, self.places
+        # If an error breaks this off, the next call takes back what is half done.
+        before, self.made_names = self.made_names, (*self.made_names, *made, "")
+        for name in before:
+            called.pop(name, None)
+            places.pop(name, None)
+        del labels[self.given_count :]
+        for number, name in enumerate(made, self.given_count + 1):
+            labels.append(name)
+            called[name], places[name] = [number], Place(number, number)
+        vars(self).pop("_folded_places", None)
+        self.made_names = made
+
+    def new_name(self, text: str) -> str:
+        """Return the name that a text gives a new place. Raise a `DeskFault` if a place has it, or
+        one that differs in capitals and accents alone, if several have, or if it cannot be one."""
+        name = cleaned(text)
+        if not name or display(name) != name or self._numbered(name):
+            raise DeskFault(f"{quoted_name(name)} cannot be the name of a place")
+        for other in self._folded_places.get(folded(name), ()):
+            self.place(other)
+            raise DeskFault(f"a place called {quoted_name(other)} already exists")
+        return name
 
     @cached_property
     def _labels(self) -> list[str]:
@@ -176,7 +223,10 @@ class Directory:
 
     def given_node(self, number: int) -> str:
         """Return the name of a node as it was given, which may have what nobody can see."""
-        return self._node_names[number - 1]
+        given = self.given_count
+        return (
+            self._node_names[number - 1] if number <= given else self.made_names[number - given - 1]
+        )
 
     def given_arc(self, number: int) -> str:
         """Return the name of an arc as it was given, or nothing."""
@@ -223,7 +273,7 @@ class Directory:
         number = self._numbered(name)
         if number:
             return self.place_of(number)
-        raise DeskFault(f"no place is called {quoted_name(name)}{near(name, self.places)}")
+        raise UnknownPlace(f"no place is called {quoted_name(name)}{near(name, self.places)}")
 
     def place_of(self, node: int) -> Place:
         """Return the place of a node. Raise a `DeskFault` if no place has a node of this number."""

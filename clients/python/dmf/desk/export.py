@@ -119,7 +119,7 @@ def problem(desk: Desk) -> str:
     network = desk.network
     names = network.names
     opened = {number: line for number, line in enumerate(network.lines, 1) if not line.is_closed}
-    labels = ((number, names.given_node(number)) for number in range(1, len(names.nodes) + 1))
+    labels = ((number, names.given_node(number)) for number in range(1, names.node_count + 1))
     nodes = "".join(
         f"c node {number} {written(NODE, number, label)}\n"
         for number, label in labels
@@ -129,7 +129,7 @@ def problem(desk: Desk) -> str:
     arcs = "".join(
         f"c arc {place} {written(ARC, place, key)}\n" for place, key in keys if key.strip(" \t")
     )
-    head = f"p max {len(names.nodes)} {len(opened)}\nn {network.source} s\nn {network.sink} t\n"
+    head = f"p max {names.node_count} {len(opened)}\nn {network.source} s\nn {network.sink} t\n"
     whole = network.measure.whole
     lines = "".join(
         f"a {line.tail} {line.head} {whole(line.capacity)}\n" for line in opened.values()
@@ -154,7 +154,7 @@ def drawing(desk: Desk) -> Drawing:
     pipes = network.pipes.of(numbers)
     amounts = desk.flows_on(numbers)
     names = network.names
-    labels = {number: names.node(number) for number in range(1, len(names.nodes) + 1)}
+    labels = {number: names.node(number) for number in range(1, names.node_count + 1)}
     arc_names = {
         place: names.arc_name(number)
         for place, number in enumerate(numbers, 1)

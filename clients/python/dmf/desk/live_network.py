@@ -14,7 +14,10 @@ from ..session.base import ProblemColumns, Program
 from ..tables.loader import LoadedProblem
 from ..tables.problem_networks import whole_network
 from .network_arcs import NetworkArcs
-from .steps import Add, Change, Close, Follow, Marks, Node, Reopen, Shut, Solve, Step
+from .steps import Add, Change, Close, Follow, MakePlace, Marks, Node, Reopen, Shut, Solve, Step
+
+# How many nodes are added at once for places that may be made.
+SPARES = 8
 
 
 class LiveNetwork(NetworkArcs):
@@ -142,6 +145,10 @@ class LiveNetwork(NetworkArcs):
         network, nodes, marks = self.network, self._nodes, self.marks
         if isinstance(change, Solve):
             network.solve()
+        elif isinstance(change, MakePlace):
+            self.marks = marks._replace(made=(*marks.made, change.name))
+            self.names.call(self.marks.made)
+            self._add_spares()
         elif isinstance(change, Add):
             ends = nodes[change.tail - 1], nodes[change.head - 1]
             network.add(*ends, self.measure.whole(change.capacity), change.name)
@@ -161,6 +168,16 @@ class LiveNetwork(NetworkArcs):
             if line.is_unlimited and not isinstance(change, Follow):
                 self.marks = marks._replace(limited=marks.limited | {line.first or change.arc})
             network.cap(self.handle(change.arc), self.measure.whole(change.capacity))
+
+    def _add_spares(self) -> None:
+        """Add nodes to the network, if it lacks those of the places that were made, and some more:
+        with each addition the session begins again. A node without arcs is no place, so it stays
+        when the step is undone."""
+        if len(self._nodes) < self.names.node_count:
+            for number in range(len(self._nodes) + 1, self.names.node_count + SPARES):
+                self.network.add_node(number)
+                self.names.add_spare(number)
+            self._nodes = self.network.nodes
 
     # Answers about that state.
 

@@ -19,12 +19,24 @@ from ..quantity import EXACT, Measure, Quantity, plain_text
 from ..state import NetworkState
 from ..tables.loader import LoadedProblem
 from ..text.lexical import NODE
-from ..text.spelling import cleaned, names_in, naming_pieces, quoted_name
+from ..text.spelling import cleaned, folded, names_in, naming_pieces, quoted_name
 from ..text.table_comments import Role, TableRoles
 from .arc_lines import ArcLines
 from .directory import Directory
 from .pipes import Pipe, Pipes, TwoWayPipe, amounts
-from .steps import Add, Cap, Change, DeskArc, DeskFault, Follow, Marks, Node, Reopen
+from .steps import (
+    Add,
+    Cap,
+    Change,
+    DeskArc,
+    DeskFault,
+    Follow,
+    MakePlace,
+    Marks,
+    Node,
+    Place,
+    Reopen,
+)
 
 
 class NetworkArcs:
@@ -158,6 +170,21 @@ class NetworkArcs:
         is closed."""
         lines = self.lines.of(self.open_arcs(number))
         return [Add(*line[:3], is_back=at > 0) for at, line in enumerate(lines)]
+
+    def ends_of_new(self, ends: Iterable[Place | MakePlace]) -> tuple[list[MakePlace], list[Place]]:
+        """Return the places to be made among the ends of a new arc, and all ends as places. Raise a
+        `DeskFault` if one cannot be made."""
+        made: list[MakePlace] = []
+        found = []
+        for end in ends:
+            if isinstance(end, MakePlace):
+                made.append(MakePlace(self.names.new_name(end.name)))
+                number = self.names.node_count + len(made)
+                end = Place(number, number)
+            found.append(end)
+        if len({folded(it.name) for it in made}) < len(made):
+            raise DeskFault(f"two new places cannot both be called {quoted_name(made[0].name)}")
+        return made, found
 
     def opened(self) -> Iterator[tuple[int, DeskArc]]:
         """Yield the open arcs, with their numbers."""
@@ -306,8 +333,11 @@ class NetworkArcs:
     # Updates after a change.
 
     def _mark(self, marks: Marks) -> None:
-        """Set the marks, which say what sources and sinks are unlimited."""
+        """Set the marks, which say what places were made, and what sources and sinks are
+        unlimited."""
         self.marks = marks
+        if marks.made != self.names.made_names:
+            self.names.call(marks.made)
         later = range(self.first_count + 1, len(self.lines) + 1) if self._at_first_unlimited else ()
         for number in chain(self._at_first_unlimited, later):
             line = self.lines[number - 1]

@@ -18,6 +18,10 @@ class DeskFault(Exception):
     """Why the desk refuses a request. It changes nothing."""
 
 
+class UnknownPlace(DeskFault):
+    """The refusal of a name that no place has."""
+
+
 class Place(NamedTuple):
     """A place: arcs into it enter the node `entry`, and arcs out of it leave the node `exit`. The
     two differ if the place has a limit."""
@@ -65,11 +69,13 @@ class DeskArc(NamedTuple):
 
 
 class Marks(NamedTuple):
-    """What the network itself does not know: the nodes that are shut, and the unlimited sources and
-    sinks that got a limit, by the first numbers of their arcs."""
+    """What the network itself does not know: the nodes that are shut; the unlimited sources and
+    sinks that got a limit, by the first numbers of their arcs; and the names of the places that
+    were made, in the order of their nodes, which are those after the table's."""
 
     shut: frozenset[int] = frozenset()
     limited: frozenset[int] = frozenset()
+    made: tuple[str, ...] = ()
 
 
 @dataclass(frozen=True)
@@ -102,6 +108,13 @@ class Reopen(ArcChange):
 
 
 @dataclass(frozen=True)
+class MakePlace:
+    """A place of this name is made, without arcs. Its node is the one after those that exist."""
+
+    name: str
+
+
+@dataclass(frozen=True)
 class Add:
     """An arc is added; `is_back` if it is the way back of the one that was added before it."""
 
@@ -117,7 +130,7 @@ class Shut:
     node: int
 
 
-Change = Union[Solve, Close, Cap, Add, Reopen, Shut]
+Change = Union[Solve, Close, Cap, MakePlace, Add, Reopen, Shut]
 
 
 @dataclass(frozen=True)

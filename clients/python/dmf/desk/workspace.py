@@ -32,7 +32,7 @@ from .live_network import LiveNetwork
 from .pipes import TwoWayPipe
 from .running_networks import RunningNetworks
 from .scale import finer, past_64_bits
-from .steps import Add, Cap, Change, Close, DeskFault, Place, Reopen, Shut, Solve, Step
+from .steps import Add, Cap, Change, Close, DeskFault, MakePlace, Place, Reopen, Shut, Solve, Step
 
 
 class Desk:
@@ -321,14 +321,23 @@ class Desk:
             ]
             return self.step(words, changes, state)
 
-    def add(self, tail: Place, head: Place, capacity: Quantity, name: str = "") -> Step:
-        """Add an arc."""
+    def add(
+        self, tail: Place | MakePlace, head: Place | MakePlace, capacity: Quantity, name: str = ""
+    ) -> Step:
+        """Add an arc, and make the places at its ends that are to be made, in one step."""
         with self._fine_for([capacity]) as state:
             network = state.network
-            ends = f"{network.names.node(tail.exit)} -> {network.names.node(head.entry)}"
+            made, (begin, end) = network.ends_of_new([tail, head])
+            labels = " -> ".join(
+                it.name if isinstance(it, MakePlace) else network.names.node(it.entry)
+                for it in (tail, head)
+            )
             taken = network.taken(capacity)
-            text = f"add {name + ', ' if name else ''}{ends}, {network.told(taken)}"
-            return self.step(text, [Add(tail.exit, head.entry, taken, name or None)], state)
+            new = " and ".join(it.name for it in made)
+            text = f"add {name + ', ' if name else ''}{labels}, {network.told(taken)}"
+            text += f" ({new} {'is' if len(made) == 1 else 'are'} new)" * bool(made)
+            added = Add(begin.exit, end.entry, taken, name or None)
+            return self.step(text, [*made, added], state)
 
     def double(self, *numbers: int, words: str = "") -> Step:
         """Add a second pipe beside each of these open ones, of the same capacity."""

@@ -61,15 +61,20 @@ def quoted_name(text: str) -> str:
 
 def near(name: str, places: Iterable[str]) -> str:
     """Return the end of a message about an unknown name: the places with similar names, if any."""
+    found = nearest(name, places)
+    return f"; is it {' or '.join(map(quoted_name, found))}?" if found else ""
+
+
+def nearest(name: str, places: Iterable[str]) -> list[str]:
+    """Return the names among these that are similar to an unknown one, the most similar first."""
     if len(name) > LONGEST_COMPARED:
-        return ""
+        return []
     folded = {
         place.casefold(): place
         for place in islice(places, MOST_COMPARED)
         if len(place) <= LONGEST_COMPARED
     }
-    found = difflib.get_close_matches(name.casefold(), folded, n=3)
-    return f"; is it {' or '.join(quoted_name(folded[it]) for it in found)}?" if found else ""
+    return [folded[it] for it in difflib.get_close_matches(name.casefold(), folded, n=3)]
 
 
 def folded(text: str) -> str:

@@ -16,7 +16,7 @@ from ...text.table_comments import listed
 from ..analysis import trials_of
 from ..expressions import amount
 from ..project.scenarios import project_of
-from ..steps import DeskFault, Trial
+from ..steps import DeskFault, MakePlace, Place, Trial
 from ..workspace import Desk
 from .responses import Fields, Json
 
@@ -145,10 +145,11 @@ def _cap(desk: Desk, content: Json) -> None:
     desk.cap(number, amount(content["capacity"], network.measure, present))
 
 
-def _add(desk: Desk, content: Json) -> None:
+def _add(desk: Desk, content: Json, head: Place | MakePlace) -> None:
+    """Add an arc to a place, or to one that is made."""
     network = desk.network
-    tail, head = network.names.place_of(content["tail"]), network.names.place(content["head"])
     capacity = amount(content["capacity"], network.measure)
+    tail = network.names.place_of(content["tail"])
     desk.add(tail, head, capacity, " ".join(content["name"].split()))
 
 
@@ -175,7 +176,8 @@ ACTS = {
     "open-place": BoardAct(
         NODE, lambda desk, it: desk.open_place(desk.network.names.place_of(it["node"]))
     ),
-    "add": BoardAct(NEW_ARC, _add),
+    "add": BoardAct(NEW_ARC, lambda desk, it: _add(desk, it, desk.network.names.place(it["head"]))),
+    "add-new": BoardAct(NEW_ARC, lambda desk, it: _add(desk, it, MakePlace(it["head"]))),
     "close-all": BoardAct(
         ARCS, lambda desk, it: desk.close(*it["arcs"], words=_told(desk, it["arcs"]))
     ),

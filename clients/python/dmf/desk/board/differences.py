@@ -97,7 +97,9 @@ class DifferencePicture(Picture):
     def __init__(self, desk: Desk, places: Places) -> None:
         super().__init__(desk)
         # Places have other sizes here, so arcs are routed again.
-        self.places = Places(places.spots)
+        self.places = Places(places.spots, called=places.called, apart=places.apart)
+        # The nodes of the places that were made in either scenario, by their names.
+        self._made: dict[str, int] = {}
 
     def of(self, found: Comparison, *, to_take: bool = False) -> tuple[str, str]:
         """Return the picture of a comparison, and why it lacks arcs, if it does. Raise
@@ -112,7 +114,7 @@ class DifferencePicture(Picture):
             if kind == "node":
                 _fill_place(
                     group,
-                    self._desk.network.names.node(int(digits)),
+                    self._node_label(int(digits)),
                     drawn.roles.get(int(digits), []),
                 )
             # The page has another picture, with these names.
@@ -145,6 +147,7 @@ class DifferencePicture(Picture):
     def _drawn(self, found: Comparison) -> _Drawn:
         desk = self._desk
         network = desk.network
+        self._take_made((*(it.known for it in found.arcs), *found.alike))
         differing: list[_Found] = []
         roles: dict[int, list[_Found]] = {}
         for it in found.arcs:
@@ -174,6 +177,22 @@ class DifferencePicture(Picture):
             len(differing),
         )
 
+    def _take_made(self, every: Iterable[Known]) -> None:
+        """Take the places that were made in the scenarios of these arcs: those of the present one
+        by their nodes, and the others by the ones after them."""
+        names = self._desk.network.names
+        self._made = {name: node for node, name in names.made.items()}
+        for known in every:
+            for end in known[:2] if isinstance(known, tuple) else ():
+                if isinstance(end, str):
+                    self._made.setdefault(end, names.given_count + len(self._made) + 1)
+        self.places.call({node: name for name, node in self._made.items()})
+
+    def _node_label(self, node: int) -> str:
+        """Return the name of a place of either scenario."""
+        names = self._desk.network.names
+        return self.places.called[node] if node > names.given_count else names.node(node)
+
     def _found(self, known: Known, differs: ArcDifference | None, at: int) -> _Found:
         desk, place = self._desk, self._desk.network.folding.place
         network = desk.network
@@ -187,10 +206,11 @@ class DifferencePicture(Picture):
                 known,
                 differs,
             )
+        tail, head = (place(self._made[it] if isinstance(it, str) else it) for it in known[:2])
         return _Found(
             network.first_count + 1 + at,
-            place(known[0]),
-            place(known[1]),
+            tail,
+            head,
             known[2],
             known,
             differs,
@@ -221,7 +241,7 @@ class DifferencePicture(Picture):
                 for arc in drawn.arcs
             ),
             tuple(
-                DrawnNode(node, network.names.node(node), roles(node), True, False)
+                DrawnNode(node, self._node_label(node), roles(node), True, False)
                 for node in sorted(nodes)
             ),
         )

@@ -66,10 +66,30 @@ class Route(NamedTuple):
 
 @dataclass
 class Places:
-    """The spots of places, by their nodes, and the routes between them that were drawn so far."""
+    """The spots of places, by their nodes, and the routes between them that were drawn so far. A
+    place that was made has its spot by its name, since its node may be another place's in another
+    state: `called` has the names of those that were made, by their nodes, and `apart` the spots of
+    those that are not there now."""
 
     spots: dict[int, Spot] = field(default_factory=dict)
     routes: dict[Way, Route] = field(default_factory=dict)
+    called: dict[int, str] = field(default_factory=dict)
+    apart: dict[str, Spot] = field(default_factory=dict)
+
+    def call(self, made: Mapping[int, str]) -> None:
+        """Take as the places that were made these, by their nodes."""
+        for node, name in self.called.items():
+            if made.get(node) != name and node in self.spots:
+                self.apart[name] = self.spots.pop(node)
+        for node, name in made.items():
+            if name in self.apart:
+                self.spots[node] = self.apart.pop(name)
+        if made:
+            # A route may have been drawn for another place with the same node.
+            kept = (it for it in self.routes.items() if made.keys().isdisjoint(it[0][:2]))
+            self.routes = dict(kept)
+        self.called.clear()
+        self.called.update(made)
 
     def put(self, nodes: Iterable[int], ways: Iterable[Way], text: str) -> str:
         """Give each of these nodes a spot if it has none. `text` draws them for Graphviz, without

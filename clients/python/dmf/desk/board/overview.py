@@ -28,7 +28,8 @@ class Overview:
         self._desk = desk
         self._looks = looks
         self._places = places
-        self._nodes = network.folding.places(range(1, len(network.names.nodes) + 1))
+        # The places that no step changes.
+        self._nodes = network.folding.places(range(1, network.names.given_count + 1))
         # Otherwise most of the drawing would be invented.
         self._is_known = 2 * sum(node in places.spots for node in self._nodes) > len(self._nodes)
 
@@ -59,13 +60,19 @@ class Overview:
 
     def looks(self) -> Json:
         """Return what a step may change: how each arc of the file looks and each place, by a sign
-        for each, and the arcs that were added with their numbers, their ends and their signs. An
-        arc has a sign in each of five texts, one for each field of a `Mark`."""
-        desk = self._desk
+        for each; the places that were made, with their nodes, names, positions and signs; and the
+        arcs that were added, with their numbers, ends and signs. An arc has a sign in each of five
+        texts, one for each field of a `Mark`."""
+        self._put_all()
+        desk, spots = self._desk, self._places.spots
         network = desk.network
         side, shown = desk.side(), network.pictured()
         marks = dict(zip(shown, self._looks.marks(shown)))
         shut = {network.folding.place(node) for node in network.shut_nodes}
+
+        def look(node: int) -> str:
+            return SHUT if node in shut else BEFORE if node in side else PLAIN
+
         added = range(network.first_count + 1, len(network.lines) + 1)
         none = NONE * len(Mark._fields)
         given = [marks.get(number, none) for number in range(1, network.first_count + 1)]
@@ -74,9 +81,11 @@ class Overview:
                 name: "".join(mark[place] for mark in given)
                 for place, name in enumerate(("arcs", "uses", "changes", "widths", "ways"))
             },
-            "places": "".join(
-                SHUT if node in shut else BEFORE if node in side else PLAIN for node in self._nodes
-            ),
+            "places": "".join(map(look, self._nodes)),
+            "made": [
+                [node, name, round(spots[node].x, 2), round(-spots[node].y, 2), look(node)]
+                for node, name in network.names.made.items()
+            ],
             "added": [
                 [number, *self._ends(number), "".join(marks[number])]
                 for number in added
@@ -92,12 +101,14 @@ class Overview:
     def _put_all(self) -> None:
         """Put each place that has no position among its neighbours, or, if they have none, in the
         middle of all."""
-        spots = self._places.spots
+        made = self._desk.network.names.made
+        self._places.call(made)
+        spots, nodes = self._places.spots, [*self._nodes, *made]
         beside: dict[int, list[int]] = defaultdict(list)
         for tail, head in map(self._ends, self._desk.network.pictured()):
             beside[tail].append(head)
             beside[head].append(tail)
-        while left := [node for node in self._nodes if node not in spots]:
+        while left := [node for node in nodes if node not in spots]:
             near = {node: [spots[one] for one in beside[node] if one in spots] for node in left}
             rough = {node: _middle(found) for node, found in near.items() if found}
             self._places.put_near(rough or dict.fromkeys(left, _middle(list(spots.values()))))

@@ -108,6 +108,7 @@ class Picture:
     def svg(self, nodes: tuple[int, ...], arcs: list[int], *, to_take: bool = False) -> str:
         """Return the picture of these arcs, and of these nodes even if they have no arc. With
         `to_take`, for a file of its own, it contains its style. Raises `NoPicture`."""
+        self.places.call(self._desk.network.names.made)
         shape = self._shape_of(arcs, nodes)
         root = self.laid_out(shape)
         self._fill(root, shape)

@@ -26,6 +26,15 @@ def kept_spots(desk: Desk) -> dict[int, Spot]:
     }
 
 
+def spots_apart(desk: Desk) -> dict[str, Spot]:
+    """Return the spots that a project keeps of places that are not there now, by their names: other
+    scenarios, or undone steps, may have made them."""
+    project = Scenarios.of(desk)
+    kept = project.project.positions if project else {}
+    places = desk.network.names.places
+    return {name: Spot(*spot) for name, spot in kept.items() if name not in places}
+
+
 def keep_spots(desk: Desk, spots: Mapping[int, Spot]) -> None:
     """Store in the project those of these spots that it does not have yet, unless it is read-only.
     A place without a name of its own is put somewhere new each time."""

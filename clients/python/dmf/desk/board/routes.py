@@ -27,7 +27,7 @@ from .layout import NoPicture, Spot
 from .looks import Beginning, Looks
 from .overview import Overview
 from .picture import Picture
-from .positions import keep_spots, kept_spots
+from .positions import keep_spots, kept_spots, spots_apart
 from .responses import (
     Fields,
     Json,
@@ -46,6 +46,7 @@ from .views import (
     arc_view,
     arc_views,
     costs_view,
+    end_view,
     many_view,
     opened_view,
     place_view,
@@ -106,12 +107,16 @@ class Board:
         """Show a desk from now on."""
         self.desk = desk
         self.picture = Picture(desk)
-        self.picture.places.spots.update({**kept_spots(desk), **spots})
+        places = self.picture.places
+        places.call(desk.network.names.made)
+        places.spots.update({**kept_spots(desk), **spots})
+        places.apart.update(spots_apart(desk))
         self._beginning = Beginning(desk)
         self._looks = Looks(desk, self._beginning)
         self._overview = Overview(desk, self.picture.places, self._looks)
-        # The number of places that had spots when a project was last asked to store them.
-        self._put_count = -1
+        # The number of places that had spots when a project was last asked to store them, and the
+        # names of those that were made.
+        self._put: tuple[int, list[str]] = -1, []
         self._nearby = Nearby(desk)
         self._rows_of_all = ArcList(desk, self._beginning)
         self._sweeps = Sweeps(desk)
@@ -317,8 +322,9 @@ class Board:
         """Store the positions of the places in the project. If that fails, the next step reports
         it."""
         spots = self.picture.places.spots
-        if len(spots) != self._put_count:
-            self._put_count = len(spots)
+        put = len(spots), [*self.desk.network.names.made.values()]
+        if put != self._put:
+            self._put = put
             with contextlib.suppress(DeskFault):
                 keep_spots(self.desk, spots)
 
@@ -393,6 +399,7 @@ ROUTES = {
     "arc": PageRoute({"number": int}, lambda board, number: arc_view(board.desk, number)),
     "place": PageRoute({"node": int}, lambda board, node: place_view(board.desk, node)),
     "find": PageRoute({"text": str}, Board._found),
+    "end": PageRoute({"text": str}, lambda board, text: end_view(board.desk, text)),
     "worth": PageRoute({}, Board._worth),
     "opened": PageRoute({}, lambda board: opened_view(board.desk)),
     "rows": PageRoute(ROWS, Board._rows),

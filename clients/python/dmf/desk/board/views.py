@@ -8,13 +8,13 @@ from collections.abc import Sequence
 from decimal import Decimal
 
 from ...quantity import EXACT, Quantity, magnitude, moved, plain_text
-from ...text.spelling import cleaned
+from ...text.spelling import cleaned, nearest
 from ..analysis import cheapest, priced, prices
 from ..demands import told_demands
 from ..expressions import amount, successors
 from ..pipes import TwoWayPipe, other_way, way_sign
 from ..project.scenarios import Scenarios
-from ..steps import Place, Trial
+from ..steps import DeskFault, Place, Trial, UnknownPlace
 from ..workspace import Desk
 from ..worth import left_without, losses, worst
 from .responses import Json, whole
@@ -226,6 +226,26 @@ def place_view(desk: Desk, node: int) -> Json:
         "open": bool(entering or leaving),
         "side": node in desk.side(),
     }
+
+
+def end_view(desk: Desk, text: str) -> Json:
+    """Return the place that a text names as the end of a new arc: its node, or 0 if there is none.
+    Then also the names that are similar, and why no place can be made of this name, if that is
+    so."""
+    names = desk.network.names
+    names.is_any_case = True
+    node, near, why = 0, list[str](), ""
+    try:
+        node = names.place(text).entry
+    except UnknownPlace:
+        near = nearest(cleaned(text), names.places)
+        try:
+            names.new_name(text)
+        except DeskFault as fault:
+            why = str(fault)
+    except DeskFault as fault:
+        why = str(fault)
+    return {"node": node, "near": near, "why": why}
 
 
 def _through(desk: Desk, place: Place) -> tuple[dict[int, Quantity], dict[int, Quantity]]:

@@ -4,18 +4,21 @@ condition."""
 from __future__ import annotations
 
 import contextlib
-from collections.abc import Callable
+from collections.abc import Callable, Iterator
 from functools import partial
 from itertools import groupby
+from typing import NamedTuple, Union
 
 from ...quantity import Quantity
-from ...text.spelling import quoted_name
+from ...text.spelling import cleaned, nearest, quoted_name
 from ..expressions import Condition, amount, condition, is_amount
-from ..steps import Close, DeskFault, Place, Shut
+from ..steps import Close, DeskFault, MakePlace, Place, Shut, UnknownPlace
 from ..workspace import Desk
-from .grammar import COMMANDS, is_number, one_name
+from .context import Confirm
+from .grammar import COMMANDS, NEW, is_number, one_name
 
 WHERE, AND = "where", "and"
+HINT = f"`{NEW}` before its name makes a new place"
 CONDITIONS = (
     "name ~ TEXT, from ~ TEXT, to ~ TEXT, capacity < NUMBER, flow >= NUMBER, full, limit; with "
     '"and" between two'
@@ -66,42 +69,115 @@ def capped(desk: Desk, words: list[str]) -> tuple[int, str]:
     )
 
 
-def new_arc(desk: Desk, words: list[str]) -> tuple[Place, Place, Quantity, str]:
-    """Return the places, the capacity and the name that the words of `add` mean, if they can mean
-    one thing only."""
-    network = desk.network
-    places = network.names
-    found: list[tuple[Place, Place, str, str]] = []
+End = Union[Place, MakePlace]
+
+
+class NewArc(NamedTuple):
+    """What the words of `add` mean: the ends, the capacity and the name, which may be empty. An end
+    that is a text is not the name of a place."""
+
+    tail: End | str
+    head: End | str
+    capacity: str
+    name: str
+
+    @property
+    def unknown(self) -> list[str]:
+        """Return the ends that are not places."""
+        return [end for end in self[:2] if isinstance(end, str)]
+
+
+def new_arc(
+    desk: Desk, words: list[str], confirm: Confirm | None = None
+) -> tuple[End, End, Quantity, str]:
+    """Return the ends, the capacity and the name that the words of `add` mean, if they can mean one
+    thing only. `confirm` asks whether a place that does not exist is to be made."""
     if "->" in words[1:] and not any(map(is_number, words[: words.index("->")])):
         # In the words by which arcs are listed.
         words = [*words[: words.index("->")], *words[words.index("->") + 1 :]]
-    for at in range(2, len(words)):
-        if not is_number(words[at]):
-            continue
-        for middle in range(1, at):
-            tail, head = " ".join(words[:middle]), " ".join(words[middle:at])
-            if places.is_place(tail) and places.is_place(head):
-                ends = places.place(tail), places.place(head)
-                # An amount may be several words, as 1 200.
-                found += (
-                    (*ends, " ".join(words[at:end]), " ".join(words[end:]))
-                    for end in _ends_of_amount(desk, words, at)
-                )
+    every = list(_new_arcs(desk, words))
+    found = [it for it in every if not it.unknown]
+    if not found and confirm:
+        found = [it for it in every if len(it.unknown) == 1]
     if len(found) > 1:
         raise DeskFault("this can mean several things; put the names in quotes, and the number")
     if not found and len(words) < 3:
         raise DeskFault(f"usage: {COMMANDS['add'].form}")
-    if found:
-        (entry, exit, text, label), *_ = found
-    else:
-        # The fault of the likeliest meaning, in which each name is one word.
-        entry, exit, text, label = (
-            places.place(words[0]),
-            places.place(words[1]),
-            words[2],
-            " ".join(words[3:]),
-        )
-    return entry, exit, amount(text, network.measure), label
+    meant = found[0] if found else _likeliest(desk, words)
+    if not confirm:
+        _refuse_unknown(desk, meant.unknown)
+    try:
+        capacity = amount(meant.capacity, desk.network.measure)
+    except DeskFault:
+        _refuse_unknown(desk, meant.unknown, confirm)
+        raise
+    if confirm and meant.unknown and not confirm(_question(desk, meant.unknown)):
+        _refuse_unknown(desk, meant.unknown, confirm)
+    tail, head = (MakePlace(end) if isinstance(end, str) else end for end in meant[:2])
+    return tail, head, capacity, meant.name
+
+
+def _new_arcs(desk: Desk, words: list[str]) -> Iterator[NewArc]:
+    """Yield all that the words of `add` can mean."""
+    for at in range(2, len(words)):
+        if not is_number(words[at]):
+            continue
+        for middle in range(1, at):
+            tail, head = _end(desk, words[:middle]), _end(desk, words[middle:at])
+            # An amount may be several words, as 1 200.
+            for end in _ends_of_amount(desk, words, at):
+                if tail and head:
+                    yield NewArc(tail, head, " ".join(words[at:end]), " ".join(words[end:]))
+
+
+def _end(desk: Desk, words: list[str]) -> End | str:
+    """Return the end of an arc that these words name, or the name if no place has it, or nothing if
+    they cannot be one name."""
+    names = desk.network.names
+    is_new = words[0] == NEW
+    name = " ".join(words[is_new:])
+    if NEW in words[1:] or not name:
+        return ""
+    if is_new:
+        return MakePlace(name)
+    try:
+        return names.place(name)
+    except DeskFault:
+        return cleaned(name)
+
+
+def _likeliest(desk: Desk, words: list[str]) -> NewArc:
+    """Return the likeliest meaning of words that have none, in which each name is one word."""
+    ends: list[End | str] = []
+    while len(ends) < 2 and words:
+        size = 1 + (words[0] == NEW)
+        ends.append(_end(desk, words[:size]))
+        words = words[size:]
+    if len(ends) < 2 or not words or "" in ends:
+        raise DeskFault(f"usage: {COMMANDS['add'].form}")
+    return NewArc(ends[0], ends[1], words[0], " ".join(words[1:]))
+
+
+def _refuse_unknown(desk: Desk, unknown: list[str], confirm: Confirm | None = None) -> None:
+    """Raise a `DeskFault` if there are such names. One who cannot be asked learns how to make a
+    place."""
+    for name in unknown:
+        try:
+            desk.network.names.place(name)
+        except UnknownPlace as fault:
+            hint = "" if confirm else f"{'' if str(fault).endswith('?') else ';'} {HINT}"
+            raise DeskFault(f"{fault}{hint}") from None
+
+
+def _question(desk: Desk, unknown: list[str]) -> str:
+    """Return the question whether places of these names are to be made. Raise a `DeskFault` if they
+    cannot be."""
+    made = [desk.network.names.new_name(name) for name in unknown]
+    told = " and no place called ".join(map(quoted_name, made))
+    near = dict.fromkeys(it for name in made for it in nearest(name, desk.network.names.places))
+    but = f", but there is {' and '.join(map(quoted_name, near))}" if near else ""
+    again = " and ".join(map(quoted_name, made)) if near else "it" if len(made) == 1 else "them"
+    return f"There is no place called {told}{but}. Make {again}? [y/n] "
 
 
 def _ends_of_amount(desk: Desk, words: list[str], at: int) -> list[int]:

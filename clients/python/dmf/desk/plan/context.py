@@ -13,6 +13,8 @@ from ..workspace import Desk
 from ..worth import Loss
 from .written_files import WrittenFiles
 
+# A function that asks a person a question, and returns True if the answer is yes.
+Confirm = Callable[[str], bool]
 # A function that keeps the steps of a desk in a new project at a path, and returns its desk.
 Keep = Callable[[str, Desk], Desk]
 
@@ -76,10 +78,12 @@ class Output:
 
 @dataclass
 class Context:
-    """What a command acts on. `keep` makes a project of the desk."""
+    """What a command acts on. `keep` makes a project of the desk, and `confirm` asks the person who
+    types, if one does."""
 
     desk: Desk
     output: Output
     is_typed: bool = False
     keep: Keep | None = None
+    confirm: Confirm | None = None
     files: WrittenFiles = field(default_factory=WrittenFiles)

@@ -77,9 +77,12 @@ COMMANDS = {
         ARC,
     ),
     "add": Help(
-        "add PLACE PLACE NUMBER [NAME]",
-        "Adds an arc from the first place to the second, with a capacity.",
+        "add [--new] PLACE [--new] PLACE NUMBER [NAME]",
+        "Adds an arc from the first place to the second, with a capacity. With `--new` before its "
+        "name, a place that does not exist is made; at a terminal, you are asked whether to make "
+        "it.",
         PLACE,
+        "add PLACE PLACE NUMBER [NAME]",
     ),
     "shut": Help("shut PLACE", "Closes each arc at a place.", PLACE),
     "undo": Help("undo [NUMBER]", "Undoes the last step, or the last NUMBER steps."),
@@ -158,6 +161,8 @@ COMMANDS = {
     "quit": Help("quit", "Ends; only a project keeps what was done."),
 }
 CHANGES = ("close", "open", "cap", "add", "shut")
+# The word before the name of a place that `add` makes.
+NEW = "--new"
 # These need no session.
 ALWAYS = ("save", "steps", "help", "quit")
 
@@ -291,7 +296,11 @@ def _candidates(desk: Desk, before: list[str]) -> Iterator[str]:
         return
     if not before or takes == COMMAND and len(before) == 1:
         yield from COMMANDS
-    elif takes == PLACE and len(before) <= (2 if before[0] == "add" else 1):
+    elif before[0] == "add":
+        # The name of a new place cannot be completed.
+        if before[-1] != NEW and len(before) - before.count(NEW) <= 2:
+            yield from (*names.places, NEW)
+    elif takes == PLACE and len(before) == 1:
         yield from names.places
     elif takes in (ARC, FLOW) and len(before) == 1:
         yield from (

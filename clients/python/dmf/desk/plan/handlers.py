@@ -97,7 +97,7 @@ def _cap(context: Context, words: list[str]) -> None:
 
 
 def _add(context: Context, words: list[str]) -> None:
-    tail, head, capacity, name = new_arc(context.desk, words)
+    tail, head, capacity, name = new_arc(context.desk, words, context.confirm)
     _change(context, lambda: context.desk.add(tail, head, capacity, name))
 
 
@@ -204,7 +204,8 @@ def _value_after(context: Context, words: list[str]) -> Quantity:
     """Return the greatest value after a change, which is taken back."""
     judge_greatest(context.desk)
     with context.desk.aside() as desk:
-        HANDLERS[words[0]](Context(desk, TextOutput(_nothing)), words[1:])
+        tried = Context(desk, TextOutput(_nothing), confirm=context.confirm)
+        HANDLERS[words[0]](tried, words[1:])
         desk.solve()
         return desk.value
 

@@ -150,7 +150,7 @@ def place_lines(desk: Desk) -> list[str]:
         )
         return f"  {network.names.node(node)}: {', '.join([*amounts, *said])}"
 
-    lines = [*map(told, network.folding.places(range(1, len(network.names.nodes) + 1)))]
+    lines = [*map(told, network.folding.places(range(1, network.names.node_count + 1)))]
     return [*lines, demand_sentence(desk, demands)] if demands else lines
 
 

@@ -58,6 +58,17 @@ def asking(complete: Complete) -> Iterator[Ask]:
         yield until.enter_context(_by_readline(complete))
 
 
+def confirming(ask: Ask) -> Callable[[str], bool]:
+    """Return a function that asks a question once, and returns True if the answer is yes."""
+
+    def confirm(question: str) -> bool:
+        with contextlib.suppress(EOFError):
+            return ask(question).strip().casefold() in ("y", "yes")
+        return False
+
+    return confirm
+
+
 @contextlib.contextmanager
 def _by_prompt_toolkit(complete: Complete) -> Iterator[Ask]:
     from prompt_toolkit import PromptSession

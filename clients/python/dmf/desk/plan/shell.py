@@ -16,7 +16,7 @@ from .context import Context, Keep, Output
 from .grammar import ALWAYS, Completed, Word, completed, quoted, split
 from .handlers import HANDLERS, command_named
 from .output import TextOutput, value_line
-from .prompt import asking, show
+from .prompt import asking, confirming, show
 
 
 class Shell:
@@ -157,6 +157,7 @@ class Shell:
         if not self.desk.steps and self._guarded(self.desk.solve):
             self.output.tell(value_line(self.desk))
         with asking(self.completed) as ask:
+            self._context.confirm = confirming(ask)
             while True:
                 try:
                     # Several lines may be pasted at once.
@@ -184,7 +185,7 @@ class Shell:
     def greeting(self) -> str:
         network, name = self.desk.network, self.desk.state.scenario
         source, sink = map(network.names.terminal, (network.source, network.sink))
-        places = len(network.folding.places(range(1, len(network.names.nodes) + 1)))
+        places = len(network.folding.places(range(1, network.names.node_count + 1)))
         scenario = (
             f" What is done is kept in it; the scenario is {quoted_name(name)}." if name else ""
         )

@@ -13,7 +13,19 @@ from ...text.lexical import display
 from ...text.spelling import quoted_name
 from ...text.table_comments import AT_PLACE
 from ..live_network import LiveNetwork
-from ..steps import Add, Cap, Change, Close, DeskFault, Follow, Place, Reopen, Shut, Solve
+from ..steps import (
+    Add,
+    Cap,
+    Change,
+    Close,
+    DeskFault,
+    Follow,
+    MakePlace,
+    Place,
+    Reopen,
+    Shut,
+    Solve,
+)
 from .records import ArcName, PlaceName, Project, Request, Scenario
 from .schema import position_of, scenario_of, step_of, table_of
 from .strict_json import Fields, ProjectFault
@@ -242,16 +254,24 @@ def requests_of(network: LiveNetwork, changes: Iterable[Change]) -> list[Request
     """Return what was asked for by changes that are not made yet. What follows of them, and each
     solve, is left out."""
     found: list[Request] = []
+    made: dict[int, str] = {}
+
+    def end(node: int) -> PlaceName:
+        return made.get(node) or place_name(network, node)
+
     for change in changes:
         if isinstance(change, (Solve, Follow)):
             continue
-        if isinstance(change, Shut):
-            request: Request = ("shut", place_name(network, change.node))
+        if isinstance(change, MakePlace):
+            request: Request = ("make", change.name)
+            made[network.names.node_count + len(made) + 1] = change.name
+        elif isinstance(change, Shut):
+            request = ("shut", place_name(network, change.node))
             # The two nodes of a place with a limit are shut together.
             if request in found:
                 continue
         elif isinstance(change, Add):
-            ends = place_name(network, change.tail), place_name(network, change.head)
+            ends = end(change.tail), end(change.head)
             word = "add back" if change.is_back else "add"
             request = (word, (*ends, change.name or ""), plain_text(change.capacity))
         elif isinstance(change, Cap):
@@ -266,13 +286,18 @@ def requests_of(network: LiveNetwork, changes: Iterable[Change]) -> list[Request
 
 
 def changes_of(
-    network: LiveNetwork, requests: Iterable[Request], unsure: Collection[ArcName] = ()
+    network: LiveNetwork, requests: Collection[Request], unsure: Collection[ArcName] = ()
 ) -> list[Change]:
     """Return the changes that requests mean now. Raise a `DeskFault` if one means nothing, or may
     mean several things."""
-    found: list[Change] = []
+    named_new = [named for word, named, *_ in requests if word == "make"]
+    making, places = network.ends_of_new(map(MakePlace, named_new))
+    made: dict[PlaceName, Place] = dict(zip(named_new, places))
+    found: list[Change] = [*making]
     last: Request = ()
     for word, named, *amounts in requests:
+        if word == "make":
+            continue
         if word == "shut":
             place = place_meant(network, named)
             if not any(
@@ -281,7 +306,7 @@ def changes_of(
                 raise DeskFault(f"no arc is open at {quoted_name(network.names.node(place.entry))}")
             found += [Shut(node) for node in dict.fromkeys(place)]
         elif word in ("add", "add back"):
-            tail, head = place_meant(network, named[0]), place_meant(network, named[1])
+            tail, head = (made.get(it) or place_meant(network, it) for it in named[:2])
             most, is_back = _amount(network, amounts[0]), word == "add back"
             if is_back and last != ("add", (named[1], named[0], named[2])):
                 raise DeskFault("it adds a way back, and not the way there before it")

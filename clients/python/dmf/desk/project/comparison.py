@@ -15,8 +15,10 @@ from ..workspace import Desk
 from .scenarios import Scenarios
 
 # By what an arc is known in every scenario: its number, if it is one of the table; else its ends,
-# its name and its place among those alike that were added.
-Known = Union[int, tuple[int, int, str, int]]
+# its name and its place among those alike that were added. A place that was made is known by its
+# name, since another scenario may have made another one with its node.
+End = Union[int, str]
+Known = Union[int, tuple[End, End, str, int]]
 OPEN, CLOSED, ABSENT = "open", "closed", "not there"
 
 
@@ -174,8 +176,8 @@ def known_arcs(desk: Desk) -> Iterator[tuple[Known, int]]:
     """Yield the pipes of a desk by what they are known by. One that was closed and opened again is
     the one that it was."""
     network = desk.network
-    count = Counter[tuple[int, int, str]]()
-    given = network.first_count
+    count = Counter[tuple[End, End, str]]()
+    given, made = network.first_count, network.names.made
     yield from (
         (number, number)
         for number, line in enumerate(network.lines[:given], 1)
@@ -183,7 +185,8 @@ def known_arcs(desk: Desk) -> Iterator[tuple[Known, int]]:
     )
     known: dict[int, Known] = {}
     for number, line in enumerate(network.lines[given:], given + 1):
-        alike = line.tail, line.head, network.names.arc_name(number)
+        tail, head = (made.get(node, node) for node in line[:2])
+        alike = tail, head, network.names.arc_name(number)
         if line.first:
             known[number] = known.get(line.first, line.first)
         else:

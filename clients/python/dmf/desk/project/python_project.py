@@ -3,6 +3,7 @@
 from __future__ import annotations
 
 from ...quantity import Quantity
+from ..steps import MakePlace
 from .project_answers import Amount, ProjectAnswers, refusing
 from .scenarios import BASE
 
@@ -107,7 +108,16 @@ class OpenProject(ProjectAnswers):
                 number, self._amount(capacity, self._desk.network.pipe(number).capacity)
             ).value
 
-    def add(self, tail: str, head: str, capacity: Amount, name: str = "") -> Quantity:
+    def add(
+        self,
+        tail: str,
+        head: str,
+        capacity: Amount,
+        name: str = "",
+        *,
+        new_tail: bool = False,
+        new_head: bool = False,
+    ) -> Quantity:
         """Add an arc from one place to another.
 
         Parameters
@@ -118,21 +128,33 @@ class OpenProject(ProjectAnswers):
             Its capacity.
         name
             Its name, which may be empty.
+        new_tail, new_head
+            Whether the place at that end is new, and is made in this step.
 
         Returns
         -------
         int or Decimal
             The greatest value after this step.
 
+        Raises
+        ------
+        ProjectFault
+            If a place does not exist, or exists and is said to be new.
+
         Examples
         --------
         >>> project.add("lake", "sea", 4, "Canal")
         6
+        >>> project.add("lake", "New Town", 3, new_head=True)
+        6
         """
         with refusing():
-            places = self._desk.network.names
+            place = self._desk.network.names.place
             return self._desk.add(
-                places.place(tail), places.place(head), self._amount(capacity), name
+                MakePlace(tail) if new_tail else place(tail),
+                MakePlace(head) if new_head else place(head),
+                self._amount(capacity),
+                name,
             ).value
 
     def shut(self, place: str) -> Quantity:

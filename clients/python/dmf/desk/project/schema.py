@@ -38,6 +38,7 @@ REQUESTS = {
     "add": ("ends", "amount"),
     "add back": ("ends", "amount"),
     "shut": ("place",),
+    "make": ("name",),
 }
 
 
@@ -170,6 +171,7 @@ def _is_amount(part: object) -> bool:
 
 _FORMS: dict[str, Callable[[object], bool]] = {
     "place": _is_place,
+    "name": lambda part: type(part) is str,
     "ends": _is_ends,
     "arc": _is_arc,
     "amount": _is_amount,
