@@ -25,6 +25,11 @@ export const places = new Map();
 /** @type {number[][] | null} */
 let ends = null;
 /**
+ * The nodes of the places that were made, which a step may take back.
+ * @type {number[]}
+ */
+let made = [];
+/**
  * The lines, their usual length, and the arcs and places that the picture in front of them has.
  * @type {{ lines: Line[], usual: number, before: Set<string> }}
  */
@@ -54,9 +59,12 @@ export async function lookAtGround(isThere) {
   }
   const told = await ask("looks");
   if (!told || !ends) return;
+  for (const node of made) places.delete(node);
   [...places.values()].forEach((place, number) => {
     place.look = told.places[number];
   });
+  for (const [node, name, x, y, look] of told.made) places.set(node, { node, name, x, y, look, isEnd: false });
+  made = told.made.map((/** @type {any[]} */ [node]) => node);
   const signs = (/** @type {number} */ place) => ["arcs", "uses", "changes", "widths", "ways"].map((text) => told[text][place]).join("");
   ground.lines = linesOf([...ends.map((one, place) => [...one, signs(place)]), ...told.added]);
   ground.usual = usualLength(ground.lines.map(({ from, to }) => Math.hypot(to[0] - from[0], to[1] - from[1])));
