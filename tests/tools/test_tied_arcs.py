@@ -165,3 +165,74 @@ def test_numbers_that_are_not_known(tools: Tools, tmp_path: Path) -> None:
     )
     assert ran.status == 0
     assert ran.out.decode().splitlines()[-5:-3] == ["  C -> B: 0 of 3", "  B -> C: 0 of 3"]
+
+
+def drawn(
+    tools: Tools, folder: Path, problem: str, answer: str | None, *words: str
+) -> dict[str, str]:
+    """Return the looks of each arc that dmf-dot draws, by its ends."""
+    texts = {"problem": text(problem), "answer": text(answer or "")}
+    ran = tools.run("dmf-dot", folder, ["problem", *["answer"] * bool(answer), *words], b"", texts)
+    assert (ran.status, ran.err) == (0, b"")
+    lines = [line.strip() for line in ran.out.decode().splitlines() if " -> " in line]
+    assert len({line.partition(" [")[0] for line in lines}) == len(lines)
+    return {ends: looks for ends, _, looks in (line.partition(" [") for line in lines)}
+
+
+RED = ', color="#c62828", fontcolor="#c62828"]'
+GREY = ', color="#8f8f8f", fontcolor="#8f8f8f"'
+
+
+def test_pictures(tools: Tools, tmp_path: Path) -> None:
+    """A pipe is one line, from where it flows, in the colour of the cut if that way is of it."""
+    problem = TIES + NAMES + ARCS
+    assert drawn(tools, tmp_path, problem, f"{SOLVED} / {CUT}") == {
+        "1 -> 2": 'label="one\\n3/5"]',
+        "2 -> 3": 'label="Main\\n3/3", penwidth=2.5' + RED,
+        "1 -> 3": 'label="by\\n2/2", penwidth=2.5' + RED,
+        "3 -> 4": 'label="out\\n5/7"]',
+    }
+    assert drawn(tools, tmp_path, problem, CUT) == {
+        "1 -> 2": 'label="one\\n5"]',
+        "2 -> 3": 'label="Main\\n3"' + RED[:-1] + ", dir=both]",
+        "1 -> 3": 'label="by\\n2"' + RED,
+        "3 -> 4": 'label="out\\n7", dir=both]',
+    }
+    still = "s 2 / f 1 2 0 / f 3 2 3 / f 2 3 3 / f 1 3 2 / f 3 4 2 / f 4 3 0"
+    assert (
+        drawn(tools, tmp_path, problem, still)["3 -> 2"] == f'label="Main\\n0/3"{GREY}, dir=none]'
+    )
+    # A picture of at most so many arcs counts a pipe once.
+    assert len(drawn(tools, tmp_path, problem, None, "--most", "4")) == 4
+
+
+def test_pictures_of_other_capacities(tools: Tools, tmp_path: Path) -> None:
+    """Where a pipe carries another amount the other way, or is closed that way, that is told."""
+    problem = TIES + NAMES + ARCS.replace("a 3 2 3", "a 3 2 1")
+    flows = SOLVED
+    assert drawn(tools, tmp_path, problem, flows)["2 -> 3"] == (
+        'label="Main\\n3/3\\n1 to B", penwidth=2.5]'
+    )
+    assert drawn(tools, tmp_path, problem, None)["3 -> 2"] == (
+        'label="Main\\n1\\nto B; 3 to C", dir=both]'
+    )
+    commands = "solve / close 2 / close 5 / close 6"
+    answer = f"{SOLVED} / c close value 5 / c close value 0 / c close value 0"
+    (tmp_path / "commands").write_bytes(text(commands))
+    texts = {"problem": text(TIES + NAMES + ARCS), "answer": text(answer)}
+    words = ["problem", "--commands", "commands", "answer"]
+    lines = tools.run("dmf-dot", tmp_path, words, b"", texts).out.decode().splitlines()
+    looks = {line.strip().partition(" [")[0]: line for line in lines if " -> " in line}
+    assert sorted(looks) == ["1 -> 2", "1 -> 3", "2 -> 3", "3 -> 4"]
+    assert 'label="Main\\n3/3\\nclosed to B", penwidth=2.5]' in looks["2 -> 3"]
+    assert 'label="out\\nclosed", style="dashed"' in looks["3 -> 4"]
+    assert "dir=none" in looks["3 -> 4"]
+
+
+def test_pictures_without_pairs(tools: Tools, tmp_path: Path) -> None:
+    """Arcs that no comment ties, or that cannot be one pipe, are drawn as they are."""
+    answer = f"{SOLVED} / {CUT}"
+    plain = drawn(tools, tmp_path, NAMES + ARCS, answer)
+    assert drawn(tools, tmp_path, "c both ways 1 3 / " + NAMES + ARCS, answer) == plain
+    assert plain["3 -> 2"] == f'label="Main\\n0/3"{GREY}]'
+    assert len(plain) == 6

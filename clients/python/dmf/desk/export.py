@@ -12,12 +12,12 @@ from ..quantity import magnitude
 from ..tables.other_columns import Extra
 from ..tables.table_writer import Told, WriterRow, plan_text
 from ..text.both_ways import of_pairs
-from ..text.drawing import Drawing, graphviz, picture
+from ..text.drawing import NOWHERE, Drawing, graphviz, picture
 from ..text.lexical import ARC, NODE, display
 from ..text.problem_text import ArcRecord, Problem, carrying
 from ..text.spelling import written
 from ..text.table_comments import renumbered, table_comments
-from .pipes import TwoWayPipe
+from .pipes import TwoWayPipe, told_beside
 from .steps import DeskArc, DeskFault
 from .workspace import Desk
 
@@ -182,10 +182,15 @@ def drawing(desk: Desk) -> Drawing:
         notes,
         has_quantities=True,
         limited=network.limited(),
-        still={
-            place
+        pointing={
+            place: NOWHERE
             for place, (pipe, flow) in enumerate(zip(pipes, amounts))
             if isinstance(pipe, TwoWayPipe) and not flow
+        },
+        both_ways={
+            place: told
+            for place, (pipe, flow) in enumerate(zip(pipes, amounts))
+            if (told := told_beside(pipe, flow, network.told_ends(pipe)))
         },
     )
 

@@ -236,3 +236,12 @@ def amounts(pipe: Pipe, flow: Quantity, ends: tuple[str, str]) -> str:
     other, to = other_way(pipe, flow, ends), ends[pipe.way(flow) is pipe.there]
     told = f"{plain_text(magnitude(flow))} of {plain_text(pipe.room(flow))}"
     return told + f" to {to}" * bool(flow or other) + f"; {other}" * bool(other)
+
+
+def told_beside(pipe: Pipe, flow: Quantity, ends: tuple[str, str]) -> str:
+    """Return what a picture says beside the flow on a pipe and what it can carry that way: `30 to
+    Mill`, or `to Town; 30 to Mill` if its arrow points nowhere; nothing where an arrow says all."""
+    other = "" if pipe.is_closed else other_way(pipe, flow, ends)
+    if flow or pipe.is_partly_closed or not other:
+        return other
+    return f"to {ends[1]}; {other}"

@@ -4,7 +4,7 @@ from __future__ import annotations
 
 import errno
 from collections import Counter, defaultdict
-from collections.abc import Callable, Collection, Iterable, Iterator, Sequence
+from collections.abc import Callable, Collection, Iterable, Iterator, Mapping, Sequence
 from dataclasses import dataclass, field
 from functools import cached_property
 
@@ -13,6 +13,8 @@ from .lexical import display
 from .problem_text import ArcRecord, Problem
 from .table_comments import AT_PLACE, TableRoles
 
+# Where an arrow points if nothing flows, and if it is not known which way.
+NOWHERE, THERE_AND_BACK = "none", "both"
 FULL, UNUSED, CUT, SIDE = "2.5", "#8f8f8f", "#c62828", "#d3e4f5"
 
 
@@ -36,8 +38,11 @@ class Drawing:
     has_quantities: bool = False
     # The places of the sources and sinks that had no limit in the table and were given one.
     limited: Collection[int] = ()
-    # The positions of the arcs that point nowhere: nothing flows there, and it might either way.
-    still: Collection[int] = ()
+    # Of pipes that lead both ways: the positions of the arcs that are not drawn, since their other
+    # way is; where an arrow points, if not from tail to head; and what a label says of both ways.
+    left_out: Collection[int] = ()
+    pointing: Mapping[int, str] = field(default_factory=dict)
+    both_ways: Mapping[int, str] = field(default_factory=dict)
 
     def __post_init__(self) -> None:
         opened = (arc[:3] for arc in self.arcs if not arc.is_closed)
@@ -50,11 +55,11 @@ class Drawing:
     @cached_property
     def drawn(self) -> list[int]:
         """The positions of the arcs that are drawn as arcs."""
-        every = range(len(self.arcs))
+        every = [place for place in range(len(self.arcs)) if place not in self.left_out]
         return (
             [place for place in every if not self.folding.role(*self.arcs[place][:2])]
             if self.folding.has_roles
-            else list(every)
+            else every
         )
 
     @cached_property
@@ -210,7 +215,8 @@ def arc_line(drawing: Drawing, place: int) -> str:
     arc, flow = drawing.arcs[place], drawing.flows[place]
     shown = drawing.amount(place)
     name = drawing.problem.arc_names.get(place + 1)
-    looks = {"label": quoted(shown) if name is None else quoted(name, shown)}
+    lines = [name, shown, drawing.both_ways.get(place)]
+    looks = {"label": quoted(*(it for it in lines if it is not None))}
     if arc.is_closed:
         looks["style"] = quoted("dashed")
     elif flow and flow == arc.capacity:
@@ -218,8 +224,8 @@ def arc_line(drawing: Drawing, place: int) -> str:
     color = CUT if drawing.is_cut(arc) else UNUSED if flow == 0 or arc.is_closed else None
     if color:
         looks["color"] = looks["fontcolor"] = quoted(color)
-    if place in drawing.still:
-        looks["dir"] = "none"
+    if place in drawing.pointing:
+        looks["dir"] = drawing.pointing[place]
     tail, head = drawing.ends(place)
     return drawn_line(f"{tail} -> {head}", looks)
 

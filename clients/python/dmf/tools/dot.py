@@ -12,7 +12,8 @@ without flow are grey, and arcs of the cut are red. The nodes on the source's
 side of the cut are filled, and the source and the sink have a double outline.
 The numbers are those of the table that the problem was made from, and the
 title shows their unit. What a place gives, takes or lets through is shown at
-the place.
+the place. A pipe that leads both ways is one line, whose arrow points to where
+it flows, with its net flow.
 
 An ANSWER may also be the output of a session. Give its commands with
 --commands, or let them stand among the replies, as a terminal shows them. The
@@ -314,6 +315,10 @@ def options() -> argparse.Namespace:
 def main() -> int:
     words = options()
     drawing = drawing_of(problem_of(words), words.others, words.commands)
+    if ties := drawing.folding.ties(drawing.problem.arcs):
+        from .tied_pipes import draw_pipes
+
+        draw_pipes(drawing, ties)
     count = len(drawing.drawn)
     if count > words.most and not drawing.side:
         told = (
