@@ -228,7 +228,7 @@ def _units(desk: Desk, given: Prices, wanted: Quantity, way: Way) -> Iterator[Bo
                 return
             number = min(offers, key=lambda it: (offers[it], it))
             chosen[number] = desk.network.pipe(number).room(desk.flow(number))
-            desk.cap(number, EXACT.add(chosen[number], left))
+            desk.cap_each(_widened(desk, number, EXACT.add(chosen[number], left)))
             desk.solve()
         # As much as flows there is enough.
         needed = {
@@ -238,7 +238,8 @@ def _units(desk: Desk, given: Prices, wanted: Quantity, way: Way) -> Iterator[Bo
         }
         wider = {number: EXACT.subtract(flow, chosen[number]) for number, flow in needed.items()}
         desk.undo(desk.at - at)
-        desk.cap_each(needed)
+        arcs = (_widened(desk, number, flow) for number, flow in needed.items())
+        desk.cap_each({arc: most for it in arcs for arc, most in it.items()})
         desk.solve()
         cost = sum(
             (EXACT.multiply(by, given.of[_row(desk, number)]) for number, by in wider.items()),
@@ -246,6 +247,13 @@ def _units(desk: Desk, given: Prices, wanted: Quantity, way: Way) -> Iterator[Bo
         )
         total = EXACT.add(total, cost)
         yield Bought(tuple(wider.items()), cost, total, desk.value)
+
+
+def _widened(desk: Desk, number: int, capacity: Quantity) -> dict[int, Quantity]:
+    """Return the capacities of the open arcs of a pipe that is widened: none carries less."""
+    lines = desk.network.lines
+    arcs = desk.network.open_arcs(number)
+    return {arc: max(lines[arc - 1].capacity, capacity) for arc in arcs}
 
 
 def _seconds(desk: Desk, given: Prices, wanted: Quantity, way: Way) -> Iterator[Bought]:

@@ -61,6 +61,18 @@ def amount(text: str, measure: Measure, present: Quantity | None = None) -> Quan
         raise DeskFault(f"{quoted_name(wanted)} {fault}") from None
 
 
+def capacities(desk: Desk, number: int, text: str, back: str = "") -> dict[int, Quantity]:
+    """Return the capacities that a text gives the open arcs of a pipe. One that leads both ways
+    gets it each way, or the other one back if there are two; and a change is one of what it has
+    that way. Raise a `DeskFault`."""
+    network = desk.network
+    arcs = network.both_arcs(number) if back else network.open_arcs(number)
+    return {
+        arc: amount(wanted, network.measure, network.lines[arc - 1].capacity)
+        for arc, wanted in zip(arcs, (text, back or text))
+    }
+
+
 COMPARED: dict[str, Callable[[Quantity, Quantity], bool]] = {
     "<": operator.lt,
     "<=": operator.le,

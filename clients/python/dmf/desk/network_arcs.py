@@ -8,7 +8,7 @@ scale of the problem.
 from __future__ import annotations
 
 import contextlib
-from collections.abc import Collection, Iterable, Iterator, Sequence
+from collections.abc import Collection, Iterable, Iterator, Mapping, Sequence
 from functools import cached_property
 from itertools import chain
 from typing import Any
@@ -153,6 +153,27 @@ class NetworkArcs:
         if not opened:
             raise DeskFault(f"{self.names.arc(number)} is closed")
         return opened
+
+    def both_arcs(self, number: int) -> list[int]:
+        """Return the open arcs of a pipe that leads both ways: from its first place to its second,
+        and back. Raise a `DeskFault` if it leads one way, or one of them is closed."""
+        opened, label = self.open_arcs(number), self.names.arc(number)
+        if not self.pipes.is_two_way(number):
+            raise DeskFault(f"{label} leads one way only, so it has no capacity back")
+        if len(opened) < 2:
+            raise DeskFault(f"one way of {label} is closed; `open` opens it")
+        return opened
+
+    def told_capacities(self, capacities: Mapping[int, Quantity]) -> Iterator[str]:
+        """Yield for each pipe of these arcs the sentence that says what it carries then."""
+        for number in self.pipes.numbers(capacities):
+            arcs = [arc for arc in self.pipes.arcs(number) if arc in capacities]
+            amounts = [self.told(capacities[arc]) for arc in arcs]
+            words = amounts[0] + " each way" * (len(arcs) > 1)
+            if amounts[1:] not in ([], amounts[:1]):
+                heads = (self.names.node(self.lines[arc - 1].head) for arc in arcs)
+                words = ", ".join(f"{amount} to {head}" for amount, head in zip(amounts, heads))
+            yield f"{self.names.phrase(number)} {words}"
 
     def closed_arcs(self, number: int) -> list[int]:
         """Return the closed arcs of the pipe that an arc is of. Raise a `DeskFault` if it is

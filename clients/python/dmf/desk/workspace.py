@@ -303,23 +303,16 @@ class Desk:
 
     def cap(self, number: int, capacity: Quantity) -> Step:
         """Give a pipe another capacity, both ways if it leads both ways."""
-        return self.cap_each({number: capacity})
+        return self.cap_each(dict.fromkeys(self.network.open_arcs(number), capacity))
 
     def cap_each(self, capacities: Mapping[int, Quantity], words: str = "") -> Step:
-        """Give pipes other capacities, in one step of these words."""
-        arcs = {number: self.network.open_arcs(number) for number in capacities}
+        """Give open arcs other capacities, in one step of these words. The two ways of a pipe may
+        get different ones."""
         with self._fine_for(capacities.values()) as state:
             network = state.network
-            taken = {number: network.taken(capacity) for number, capacity in capacities.items()}
-            phrase = network.names.phrase
-            words = words or " and ".join(
-                f"{phrase(number)} {network.told(capacity)}{' each way' * (len(arcs[number]) > 1)}"
-                for number, capacity in taken.items()
-            )
-            changes = [
-                Cap(arc, capacity) for number, capacity in taken.items() for arc in arcs[number]
-            ]
-            return self.step(words, changes, state)
+            taken = {arc: network.taken(capacity) for arc, capacity in capacities.items()}
+            words = words or " and ".join(network.told_capacities(taken))
+            return self.step(words, [Cap(arc, capacity) for arc, capacity in taken.items()], state)
 
     def add(
         self, tail: Place | MakePlace, head: Place | MakePlace, capacity: Quantity, name: str = ""

@@ -23,8 +23,8 @@ def pipe_of(pair: tuple[int, int], arcs: Sequence[ArcRecord], measure: Measure) 
 
 
 def draw_pipes(drawing: Drawing, ties: TiedArcs) -> None:
-    """Have a drawing show two tied arcs as one pipe: as the arc of the way that it flows, with the
-    net flow. If nothing flows, that is the way that crosses the cut, or else the first."""
+    """Draw two tied arcs as one pipe: as the arc of the way that it flows, with the net flow. If
+    nothing flows, that is the way that crosses the cut, or else the first."""
     problem, arcs, flows = drawing.problem, drawing.arcs, [*drawing.flows]
     names, left_out = dict(problem.arc_names), set()
     pointing, both_ways = {}, {}

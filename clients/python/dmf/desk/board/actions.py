@@ -14,7 +14,7 @@ from ...quantity import Quantity
 from ...text.spelling import cleaned
 from ...text.table_comments import listed
 from ..analysis import trials_of
-from ..expressions import amount
+from ..expressions import amount, capacities
 from ..project.scenarios import project_of
 from ..steps import DeskFault, MakePlace, Place, Trial
 from ..workspace import Desk
@@ -127,22 +127,28 @@ def _cap_all(desk: Desk, content: Json) -> None:
     """Give each of some arcs a capacity, in one step."""
     numbers, text = content["arcs"], content["capacity"]
     told = _told(desk, numbers)
-    capacities = {number: _capacity(desk, number, text) for number in numbers}
-    desk.cap_each(capacities, f"{told}: {' '.join(text.split())}" if told else "")
+    wanted = {arc: it for number in numbers for arc, it in _capacities(desk, number, text).items()}
+    desk.cap_each(wanted, f"{told}: {' '.join(text.split())}" if told else "")
 
 
-def _capacity(desk: Desk, number: int, text: str) -> Quantity:
-    """Return the capacity that a text gives an arc. Raise a `DeskFault` that names the arc."""
+def _capacities(desk: Desk, number: int, text: str) -> dict[int, Quantity]:
+    """Return the capacities that a text gives a pipe. Raise a `DeskFault` that names it."""
+    desk.network.open_arcs(number)
     try:
-        return amount(text, desk.network.measure, desk.network.pipe(number).capacity)
+        return capacities(desk, number, text)
     except DeskFault as fault:
         raise DeskFault(f"{desk.network.names.short(number)}: {fault}") from None
 
 
 def _cap(desk: Desk, content: Json) -> None:
-    network, number = desk.network, content["arc"]
-    present = network.pipe(number).capacity
-    desk.cap(number, amount(content["capacity"], network.measure, present))
+    desk.cap_each(capacities(desk, content["arc"], content["capacity"]))
+
+
+def _cap_ways(desk: Desk, content: Json) -> None:
+    number, back = content["arc"], content["back"]
+    if not back.strip():
+        raise DeskFault("expected a number for each way")
+    desk.cap_each(capacities(desk, number, content["capacity"], back))
 
 
 def _add(desk: Desk, content: Json, head: Place | MakePlace) -> None:
@@ -172,6 +178,7 @@ ACTS = {
     "open": BoardAct(ARC, lambda desk, it: desk.open(it["arc"])),
     "double": BoardAct(ARC, lambda desk, it: desk.double(it["arc"])),
     "cap": BoardAct({**ARC, **CAPACITY}, _cap),
+    "cap-ways": BoardAct({**ARC, **CAPACITY, "back": str}, _cap_ways),
     "shut": BoardAct(NODE, lambda desk, it: desk.shut(desk.network.names.place_of(it["node"]))),
     "open-place": BoardAct(
         NODE, lambda desk, it: desk.open_place(desk.network.names.place_of(it["node"]))

@@ -138,17 +138,20 @@ def arc_view(desk: Desk, number: int) -> Json:
 
 def arc_views(desk: Desk, numbers: Sequence[int]) -> list[Json]:
     """Return these pipes as they are. Of one that leads both ways they have the capacity for the
-    way that it flows, which `way` is the sign of, and what it can carry the other way if that is
-    something else."""
+    way that it flows, which `way` is the sign of, what it can carry the other way if that is
+    something else, and its capacities there and back if both ways are open."""
     network, cut = desk.network, desk.cut_arcs()
     names_of, flows = network.names.arc_names, desk.flows_on(numbers)
     found = []
     for number, pipe, flow in zip(numbers, network.pipes.of(numbers), flows):
         names = names_of(number)
-        capacity, looks = pipe.capacity, {"way": "", "other_way": ""}
+        capacity, looks = pipe.capacity, {"way": "", "other_way": "", "there": "", "back": ""}
         if isinstance(pipe, TwoWayPipe):
             capacity, other = pipe.room(flow), other_way(pipe, flow, (names.tail, names.head))
-            looks = {"way": way_sign(pipe, flow), "other_way": other}
+            looks.update(way=way_sign(pipe, flow), other_way=other)
+            if not pipe.is_partly_closed:
+                ways = plain_text(pipe.there.capacity), plain_text(pipe.back.capacity)
+                looks["there"], looks["back"] = ways
         found.append(
             {
                 "number": number,

@@ -11,13 +11,13 @@ from typing import NamedTuple, Union
 
 from ...quantity import Quantity
 from ...text.spelling import cleaned, nearest, quoted_name
-from ..expressions import Condition, amount, condition, is_amount
+from ..expressions import Condition, amount, capacities, condition, is_amount
 from ..steps import Close, DeskFault, MakePlace, Place, Shut, UnknownPlace
 from ..workspace import Desk
 from .context import Confirm
 from .grammar import COMMANDS, NEW, is_number, one_name
 
-WHERE, AND = "where", "and"
+WHERE, AND, BACK = "where", "and", "back"
 HINT = f"`{NEW}` before its name makes a new place"
 CONDITIONS = (
     "name ~ TEXT, from ~ TEXT, to ~ TEXT, capacity < NUMBER, flow >= NUMBER, full, limit; with "
@@ -41,32 +41,45 @@ def last_closed(desk: Desk) -> Callable[[], object]:
     raise DeskFault("nothing is closed")
 
 
-def capped(desk: Desk, words: list[str]) -> tuple[int, str]:
-    """Return the arc and the amount that the words of `cap` mean, if they can mean one thing
-    only."""
+class Capped(NamedTuple):
+    """What the words of `cap` mean: a pipe, an amount, and the amount back, which may be empty."""
+
+    number: int
+    text: str
+    back: str = ""
+
+
+def capped(desk: Desk, words: list[str]) -> Capped:
+    """Return what the words of `cap` mean, if they can mean one thing only."""
     network = desk.network
-    if len(words) < 2:
+    if len(words) < 2 or words[-1] == BACK:
         raise DeskFault(f"usage: {COMMANDS['cap'].form}")
-    # An amount may be several words: 1 200, +10 %, 12 l/s.
-    splits = [
-        at
-        for at in range(1, len(words))
-        if is_amount(" ".join(words[at:]).removesuffix(network.measure.unit).strip())
+    plain = _amounts_ending(desk, words)
+    meanings = [
+        (at, text, " ".join(words[end + 1 :]))
+        for end, word in enumerate(words)
+        if word == BACK and (end + 1 in plain or not plain)
+        for at, text in _amounts_ending(desk, words[:end]).items()
     ]
+    meanings += [(at, text, "") for at, text in plain.items()]
     found = []
-    for at in splits:
+    for at, text, back in meanings:
         with contextlib.suppress(DeskFault):
-            found.append((network.the_arc(" ".join(words[:at])), " ".join(words[at:])))
+            found.append(Capped(network.the_arc(" ".join(words[:at])), text, back))
     if len(found) > 1:
         raise DeskFault("this can mean several things; put the name in quotes")
     # Else the fault of the likeliest meaning, in which the amount is as long as can be, or one
     # word.
-    likeliest = next(iter(splits), len(words) - 1)
-    return (
-        found[0]
-        if found
-        else (network.the_arc(" ".join(words[:likeliest])), " ".join(words[likeliest:]))
-    )
+    at, text, back = next(iter(meanings), (len(words) - 1, words[-1], ""))
+    return found[0] if found else Capped(network.the_arc(" ".join(words[:at])), text, back)
+
+
+def _amounts_ending(desk: Desk, words: list[str]) -> dict[int, str]:
+    """Return the amounts that the last words may be, by where they begin. One may be several words:
+    1 200, +10 %, 12 l/s."""
+    unit = desk.network.measure.unit
+    texts = {at: " ".join(words[at:]) for at in range(1, len(words))}
+    return {at: text for at, text in texts.items() if is_amount(text.removesuffix(unit).strip())}
 
 
 End = Union[Place, MakePlace]
@@ -296,14 +309,11 @@ def _condition(desk: Desk, words: list[str]) -> Condition:
 def capped_where(desk: Desk, words: list[str]) -> tuple[dict[int, Quantity], str]:
     """Return the new capacities of the arcs that meet conditions, and the words of that step. The
     amount is the last word, or the last two."""
-    network = desk.network
     size = 2 if words[-1] == "%" or not is_amount(words[-1]) else 1
     text, conditions = " ".join(words[-size:]), words[1:-size]
     numbers = arcs_where(desk, conditions)
-    capacities = {
-        number: amount(text, network.measure, network.pipe(number).capacity) for number in numbers
-    }
-    return capacities, f"{arcs_told(numbers, words[:-size])}: {text}"
+    wanted = {arc: it for number in numbers for arc, it in capacities(desk, number, text).items()}
+    return wanted, f"{arcs_told(numbers, words[:-size])}: {text}"
 
 
 def arcs_told(numbers: list[int], words: list[str]) -> str:

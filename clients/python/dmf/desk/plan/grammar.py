@@ -71,9 +71,10 @@ COMMANDS = {
         CLOSED,
     ),
     "cap": Help(
-        "cap ARC NUMBER",
-        f"Gives an arc another capacity: 47.3, or +10 % or -5 of what it has. {ARCS_SAID} "
-        f"{MANY_SAID}",
+        "cap ARC NUMBER [back NUMBER]",
+        "Gives an arc another capacity: 47.3, or +10 % or -5 of what it has. One that leads both "
+        "ways gets it each way; with `back`, the first is from its first place to its second, and "
+        f"the other one back: cap Main 50 back 30. {ARCS_SAID} {MANY_SAID}",
         ARC,
     ),
     "add": Help(

@@ -10,7 +10,7 @@ from ...quantity import Quantity
 from ...text.spelling import quoted_name
 from ..analysis import trials_of
 from ..export import DRAWN, drawn, problem, table, taken
-from ..expressions import amount
+from ..expressions import capacities
 from ..steps import DeskFault, Trial
 from ..worth import judge_greatest, left_without_all, losses, worst
 from .arguments import (
@@ -88,12 +88,14 @@ def _open(context: Context, words: list[str]) -> None:
 def _cap(context: Context, words: list[str]) -> None:
     desk = context.desk
     if words[:1] == [WHERE]:
-        capacities, told = capped_where(desk, words)
-        _change(context, lambda: desk.cap_each(capacities, told), f"{len(capacities)} changed")
+        wanted, told = capped_where(desk, words)
+        count = len(desk.network.pipes.numbers(wanted))
+        _change(context, lambda: desk.cap_each(wanted, told), f"{count} changed")
         return
-    number, text = capped(desk, words)
-    capacity = amount(text, desk.network.measure, desk.network.pipe(number).capacity)
-    _change(context, lambda: desk.cap(number, capacity))
+    found = capped(desk, words)
+    wanted = capacities(desk, *found)
+    told = found.back and next(desk.network.told_capacities(wanted))
+    _change(context, lambda: desk.cap_each(wanted), told)
 
 
 def _add(context: Context, words: list[str]) -> None:

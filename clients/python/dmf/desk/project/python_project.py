@@ -103,10 +103,12 @@ class OpenProject(ProjectAnswers):
         Decimal('2.5')
         """
         with refusing():
-            number = self._desk.network.the_arc(arc)
-            return self._desk.cap(
-                number, self._amount(capacity, self._desk.network.pipe(number).capacity)
-            ).value
+            network = self._desk.network
+            wanted = {
+                number: self._amount(capacity, network.lines[number - 1].capacity)
+                for number in network.open_arcs(network.the_arc(arc))
+            }
+            return self._desk.cap_each(wanted).value
 
     def add(
         self,

@@ -48,7 +48,7 @@ function aboutArc(arc) {
   return [...about, make("p", closingWords(arc), { id: "closing" }),
     button("Close it", () => act({ what: "close", arc: arc.number }, `${arc.short} is closed`)),
     button("Put a second one beside it", () => act({ what: "double", arc: arc.number }, `a second ${arc.short}`)),
-    setting(arc, arc.way ? "What it can carry each way" : "What it can carry", "capacity")];
+    arc.there ? settingBoth(arc) : setting(arc, arc.way ? "What it can carry each way" : "What it can carry", "capacity")];
 }
 
 /** @param {Arc} arc */
@@ -66,6 +66,20 @@ function setting(arc, words, id) {
   const asked = make("label", [`${words}${units() && " in"}${units()} `, room]);
   return form([asked, make("span", "or +10 %, or -5 ", { id: `${id}-forms`, class: "soft" })],
     "Set", () => act({ what: "cap", arc: arc.number, capacity: room.value }));
+}
+
+/**
+ * Returns the form that changes both capacities of an arc that leads both ways.
+ * @param {Arc} arc
+ */
+function settingBoth(arc) {
+  const asked = (/** @type {string} */ id, /** @type {string} */ words, /** @type {string} */ value) => make("input", [],
+    { id, value, "data-of": `${arc.number} ${arc.label} ${words}`, autocomplete: "off", "aria-describedby": "capacity-forms" });
+  const there = asked("capacity", "there", arc.there), back = asked("capacity-back", "back", arc.back);
+  const caption = `What it can carry to ${arc.head}${units() && " in"}${units()} `;
+  return form([make("label", [caption, there]), make("label", [`and to ${arc.tail} `, back]),
+    make("span", "or +10 %, or -5 ", { id: "capacity-forms", class: "soft" })],
+  "Set", () => act({ what: "cap-ways", arc: arc.number, capacity: there.value, back: back.value }));
 }
 
 /**
