@@ -220,7 +220,8 @@ class TableFault(Error, ValueError):
     """Why a table is refused: the reason, the line and the column, counted from 1, and the path of
     its file, as far as they are known; and the `others` that were found with it, of which `untold`
     more are not kept. `more_lines` have the same fault, and `column_name` is what the column is
-    called, as `'Q max'`."""
+    called, as `'Q max'`. If one value of an option settles it, that is the `option`, and `answers`
+    are the values that it may have, each with what that means."""
 
     def __init__(self, reason: str, line: int = 0, path: str = "", column: int = 0) -> None:
         super().__init__(reason, line, path, column)
@@ -232,6 +233,8 @@ class TableFault(Error, ValueError):
         self.untold = 0
         self.more_lines: Sequence[int] = ()
         self.column_name = ""
+        self.option = ""
+        self.answers: Sequence[tuple[str, str]] = ()
 
     def __str__(self) -> str:
         return "\n".join(self.lines())

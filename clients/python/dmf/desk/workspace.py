@@ -16,6 +16,7 @@ from __future__ import annotations
 
 import contextlib
 import copy
+import gc
 from array import array
 from collections.abc import Iterable, Iterator, Mapping, Sequence
 from dataclasses import replace
@@ -463,3 +464,16 @@ class Desk:
 def _only(count: int, do: str) -> str:
     """Return how many steps can be undone or redone, if more were asked for."""
     return f"only {count} step{'s' * (count != 1)} to {do}" if count else f"nothing to {do}"
+
+
+@contextlib.contextmanager
+def without_collection() -> Iterator[None]:
+    """Turn garbage collection off for the block: among the objects of a million arcs it takes a
+    third of the time, and finds nothing."""
+    was_enabled = gc.isenabled()
+    gc.disable()
+    try:
+        yield
+    finally:
+        if was_enabled:
+            gc.enable()

@@ -368,13 +368,18 @@ class _ArcReader(Reader):
         )
 
 
+def arcs_in(sheet: Sheet, reading: ReadOptions) -> Sheet:
+    """Return a sheet with a row for each arc: that of a matrix, that of lines with their ends, or
+    the sheet as it is. Raises a `TableFault`."""
+    first_rows(sheet)
+    matrix = None if reading.titles else matrix_of(sheet, is_asked=reading.is_matrix)
+    return lines_of(matrix or sheet, reading)
+
+
 def read_arcs(sheet: Sheet, reading: ReadOptions) -> Table:
     """Return the table of arcs of a sheet. Raises a `TableFault` with all rows that cannot be read,
     and if there is none."""
-    first_rows(sheet)
-    if matrix := None if reading.titles else matrix_of(sheet, is_asked=reading.is_matrix):
-        sheet = matrix
-    sheet = lines_of(sheet, reading)
+    sheet = arcs_in(sheet, reading)
     layout = layout_of_sheet(sheet, ARCS, reading.titles, reading.ignored)
     reader = _ArcReader(sheet, layout, reading)
     try:

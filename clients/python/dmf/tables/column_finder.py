@@ -13,7 +13,11 @@ from .column_question import ColumnQuestion
 from .column_samples import ColumnSample
 from .headings import (
     ARCS,
+    CHOSEN,
+    IN_ORDER,
     MOST_LISTED,
+    NAMED,
+    ONLY,
     PLACE_COLUMNS,
     STATES,
     Form,
@@ -85,6 +89,9 @@ class _Finder:
         self.given = {column: self._place_of(title) for column, title in named.items()}
         self.ignored = [self._place_of(title) for title in ignored] if form is ARCS else []
         self.is_by_numbers = False
+        # The columns that titles name, and those that were taken by where they stand.
+        self.by_title: set[str] = set()
+        self.by_order: set[str] = set()
 
     def _place_of(self, title: str) -> int:
         """Return the column that is called by this title, or by its number. Raises a `TableFault`
@@ -136,6 +143,7 @@ class _Finder:
         two can be meant."""
         form = self.form
         at = self._titled()
+        self.by_title.update(at)
         if not at.keys() & {*form.amounts}:
             at[form.amounts[0]] = self._amount(at)
         self._add_ends(at)
@@ -146,6 +154,7 @@ class _Finder:
             and self._has_label(at)
         ):
             at[form.label] = form.order[form.label]
+            self.by_order.add(form.label)
         self._judge_twice(at)
         return self._layout(at)
 
@@ -181,7 +190,16 @@ class _Finder:
                 for place, title in enumerate(self.titles)
                 if not title.text and place not in at.values() and self.sample.cells(place)
             ),
+            {column: self._why(column) for column in ordered},
         )
+
+    def _why(self, column: str) -> str:
+        """Return why a column was taken for what it is."""
+        if column in self.given:
+            return CHOSEN
+        if column in self.by_title:
+            return NAMED
+        return IN_ORDER if column in self.by_order else ONLY
 
     def _titled(self) -> dict[str, int]:
         """Return the columns that were given, and those that titles tell."""
@@ -291,6 +309,7 @@ class _Finder:
             self.is_by_numbers = True
             return numeric[0]
         if not numeric and usual in free:
+            self.by_order.add(amount)
             return usual
         why = (
             f"{len(numeric)} columns have numbers, and no title says it"
@@ -341,8 +360,11 @@ class _Finder:
         )
         if len(texts) == len(missing):
             at.update(zip(missing, texts))
+            # Of two columns, the first is where rows begin.
+            self.by_order.update(missing if len(missing) > 1 else ())
         elif is_in_order and all(form.order[column] in free for column in missing):
             at.update((column, form.order[column]) for column in missing)
+            self.by_order.update(missing)
         elif missing:
             raise self._question(missing[0], texts or free, "no title says it")
 
@@ -367,6 +389,7 @@ class _Finder:
         amount = form.amounts[0]
         if amount not in at:
             at[amount] = self._amount_in_order()
+            self.by_order.update(() if self.is_by_numbers else [amount])
         self._add_ends(at)
         is_given = self.given.keys() >= {*form.places, amount}
         label = form.order.get(form.label, self.width)
@@ -377,6 +400,7 @@ class _Finder:
             and all(at[column] == form.order[column] for column in form.places)
         ):
             at[form.label] = label
+            self.by_order.add(form.label)
         return self._layout(at)
 
     def _amount_in_order(self) -> int:

@@ -30,6 +30,8 @@ class ColumnQuestion(TableFault):
         self.sought = column
         self.choices = list(choices)
         self.is_arcs = is_arcs
+        self.option = column if is_arcs else ""
+        self.answers = [(name, shown_cells(cells)) for name, cells in self.choices]
         self.may_be_matrix = False
         # Whether a call of Python gets the question, which then names the keywords of the call.
         self.is_call = False

@@ -3,7 +3,7 @@
 from __future__ import annotations
 
 from collections.abc import Collection, Mapping, Sequence
-from dataclasses import dataclass
+from dataclasses import dataclass, field
 
 from ..text.spelling import quoted_name
 from .titles import (
@@ -59,6 +59,9 @@ ARCS = Form(
 # its rows.
 PLACE_COLUMNS = SUPPLY, DEMAND, LIMIT
 STATES = STATUS, DIRECTION
+# Why a column was taken for what it is: it was named by an option or by its title, it is the only
+# one that is possible, or it stands where such a column usually stands.
+CHOSEN, NAMED, ONLY, IN_ORDER = "chosen", "named", "only", ""
 # How the line that tells what was taken calls a column.
 _CALLED = {TAIL: "from", HEAD: "to"}
 
@@ -67,7 +70,8 @@ _CALLED = {TAIL: "from", HEAD: "to"}
 class Layout:
     """The position of each column of a table, from 0 on; the titles, and their line, if there is a
     row of them; and the first line that may have a row. `is_by_numbers` says that the amounts are
-    those of the only column with numbers, and that a column had no cell in the examined rows."""
+    those of the only column with numbers, and that a column had no cell in the examined rows.
+    `sure` says why each column was taken for what it is."""
 
     at: Mapping[str, int]
     titles: tuple[Title, ...] = ()
@@ -76,6 +80,7 @@ class Layout:
     is_by_numbers: bool = False
     notes: tuple[str, ...] = ()
     untitled: tuple[int, ...] = ()
+    sure: Mapping[str, str] = field(default_factory=dict)
 
     def title(self, column: str) -> Title:
         """Return the title of a column; an empty one if it has none."""

@@ -20,7 +20,7 @@ from ..text.spelling import MOST_TOLD, quoted_name
 from ..text.table_comments import TableComments, described
 from .arcs_and_places import Term, read_arcs, read_places, terms_of
 from .column_question import ColumnQuestion
-from .file_kinds import has_table, kind_of, refuse_settings, sheets_of
+from .file_kinds import FileKind, has_table, kind_of, refuse_settings, sheets_of
 from .headings import ARCS, PLACE_COLUMNS, STATES, Form, spoken
 from .other_columns import Extra, extra_in, extra_of, left_out
 from .problem_builder import KINDS, NetworkTables, ends_alone, net_of, problem_text, term_of
@@ -77,22 +77,44 @@ def data_of(path: Optional[str]) -> bytes:
     return standard_input().read() if path is None else read_file(split_path(path)[0])
 
 
-def load_tables(wanted: TableOptions, path: Optional[str], data: bytes) -> NetworkTables:
-    """Return the plan of the table of arcs in these bytes. Raises a `TableFault`, and a `FileFault`
-    if another file cannot be read."""
+@dataclass
+class Stages:
+    """What was found in a file so far, also if its reading fails then: the kind of the file, its
+    sheets, the sheet of the arcs, their table, and the plan."""
+
+    kind: Optional[FileKind] = None
+    sheets: Sequence[Sheet] = ()
+    sheet: Optional[Sheet] = None
+    table: Optional[Table] = None
+    plan: Optional[NetworkTables] = None
+
+
+def load_tables(
+    wanted: TableOptions, path: Optional[str], data: bytes, stages: Optional[Stages] = None
+) -> NetworkTables:
+    """Return the plan of the table of arcs in these bytes, and note the stages. Raises a
+    `TableFault`, and a `FileFault` if another file cannot be read."""
+    stages = stages or Stages()
     told, name = split_path(path or "")
     file = TableFile(data, told, wanted.encoding, wanted.reading, 3, wanted.read)
     with naming(told):
+        stages.kind = kind_of(file)
         refuse_settings(file)
-        sheet, others = _arcs_sheet(file, name)
-    return plan_of_sheet(wanted, sheet, others)
+        stages.sheets = sheets_of(file)
+        stages.sheet, others = _arcs_sheet(file, stages.sheets, name)
+    stages.plan = plan_of_sheet(wanted, stages.sheet, others, stages)
+    return stages.plan
 
 
-def plan_of_sheet(wanted: TableOptions, sheet: Sheet, others: Sequence[Sheet]) -> NetworkTables:
+def plan_of_sheet(
+    wanted: TableOptions, sheet: Sheet, others: Sequence[Sheet], stages: Optional[Stages] = None
+) -> NetworkTables:
     """Return the plan of the table of arcs in a sheet, beside which other sheets may be of its
-    places. Raises what `load_tables` raises."""
+    places, and note the table. Raises what `load_tables` raises."""
     with naming(sheet.path):
         table = read_arcs(sheet, wanted.reading)
+    if stages:
+        stages.table = table
     plan = NetworkTables(table, [], lead(table, both_ways=wanted.both_ways), wanted.scale)
     plan.notes += [*_told(table), *table.sheet.notes]
     for kind, words, option in (SUPPLY, wanted.source, "sources"), (DEMAND, wanted.sink, "sinks"):
@@ -125,8 +147,7 @@ def _add_beside(plan: NetworkTables, sheet: Sheet, wanted: TableOptions) -> None
                 plan.notes.append(f"the {noun} of the file are left out, since options name others")
     elif not wanted.tables:
         plan.notes.append(
-            f"the sheet {quoted_name(sheet.path.rpartition('#')[2])} says what places give, take or"
-            " let through"
+            f"the sheet {quoted_name(sheet.name)} says what places give, take or" " let through"
         )
         _add_places(plan, sheet, PLACE_COLUMNS, wanted)
 
@@ -162,9 +183,8 @@ def _add_places(
     plan.headings += headings
 
 
-def _arcs_sheet(file: TableFile, name: str) -> tuple[Sheet, list[Sheet]]:
-    """Return the sheet of arcs, and those of places beside it in its file."""
-    sheets = sheets_of(file)
+def _arcs_sheet(file: TableFile, sheets: Sequence[Sheet], name: str) -> tuple[Sheet, list[Sheet]]:
+    """Return the sheet of arcs out of those of a file, and those of places beside it."""
     if len(sheets) == 1 and not name:
         return sheets[0], []
     places = [
@@ -176,7 +196,8 @@ def _arcs_sheet(file: TableFile, name: str) -> tuple[Sheet, list[Sheet]]:
         chosen = _of_name(file, sheets, name)
     else:
         fit = [sheet for sheet in sheets if _fits(sheet, ARCS)]
-        chosen = _only(fit or [sheet for sheet in sheets if sheet not in places] or sheets, name)
+        likely = fit or [sheet for sheet in sheets if sheet not in places] or sheets
+        chosen = _only(likely, name, option="sheet")
     return chosen, [sheet for sheet in places if sheet is not chosen]
 
 
@@ -193,25 +214,28 @@ def _of_name(file: TableFile, sheets: Sequence[Sheet], name: str) -> Sheet:
             f"{kind_of(file).what} has no sheets, and so none that is called {quoted_name(name)};"
             " name the file alone"
         )
-    found = {sheet.path.rpartition("#")[2].casefold(): sheet for sheet in reversed(sheets)}
+    found = {sheet.name.casefold(): sheet for sheet in reversed(sheets)}
     if name.casefold() not in found:
         raise TableFault(f"no sheet is called {quoted_name(name)}; the sheets are {_names(sheets)}")
     return found[name.casefold()]
 
 
-def _only(sheets: Sequence[Sheet], name: str) -> Sheet:
+def _only(sheets: Sequence[Sheet], name: str, option: str = "") -> Sheet:
+    """Return the sheet, if it is the only one. Otherwise the option settles which it is."""
     if not sheets:
         raise TableFault("no sheet of the workbook has a cell")
     if len(sheets) > 1:
-        raise TableFault(
+        fault = TableFault(
             f"which sheet is it? Name one after the file, as in {sheets[0].path}; the sheets are "
             f"{_names(sheets)}"
         )
+        fault.option, fault.answers = option, [(sheet.name, "") for sheet in sheets]
+        raise fault
     return sheets[0]
 
 
 def _names(sheets: Sequence[Sheet]) -> str:
-    return ", ".join(quoted_name(sheet.path.rpartition("#")[2]) for sheet in sheets)
+    return ", ".join(quoted_name(sheet.name) for sheet in sheets)
 
 
 def names_terminals(words: argparse.Namespace) -> bool:
@@ -318,10 +342,12 @@ class LoadedProblem:
         )
 
 
-def read_subject(words: argparse.Namespace, *, in_doubt: bool = False) -> LoadedProblem:
-    """Return the problem that the words name. Where nothing tells whether a file has a problem, it
-    has one if `in_doubt`. Raises a `TableFault`, a `FileFault` for a file that cannot be read, and
-    an `OptionFault`."""
+def read_subject(
+    words: argparse.Namespace, *, in_doubt: bool = False, stages: Optional[Stages] = None
+) -> LoadedProblem:
+    """Return the problem that the words name, and note the stages of a table. Where nothing tells
+    whether a file has a problem, it has one if `in_doubt`. Raises a `TableFault`, a `FileFault` for
+    a file that cannot be read, and an `OptionFault`."""
     try:
         data = problem_in(data_of(words.path))
         if is_problem(words.path, data, in_doubt=in_doubt and not says_table(words)):
@@ -333,7 +359,7 @@ def read_subject(words: argparse.Namespace, *, in_doubt: bool = False) -> Loaded
             return LoadedProblem(
                 words.path, data, notes=tuple(left_out(data)), raw_names=words.raw_names
             )
-        return answered(words, lambda: subject_of(wanted_of(words), words.path, data))
+        return answered(words, lambda: subject_of(wanted_of(words), words.path, data, stages))
     except TableFault as fault:
         fault.name_path(words.path)
         raise
@@ -353,10 +379,12 @@ def is_problem(path: str, data: bytes, *, in_doubt: bool = False) -> bool:
     return in_doubt and not is_table
 
 
-def subject_of(wanted: TableOptions, path: str, data: bytes) -> LoadedProblem:
-    """Return the problem of a table in these bytes. Raises a `TableFault`, and a `FileFault` if a
-    table of places cannot be read."""
-    plan = load_tables(wanted, path, data)
+def subject_of(
+    wanted: TableOptions, path: str, data: bytes, stages: Optional[Stages] = None
+) -> LoadedProblem:
+    """Return the problem of a table in these bytes, and note the stages. Raises a `TableFault`, and
+    a `FileFault` if a table of places cannot be read."""
+    plan = load_tables(wanted, path, data, stages)
     said = [term.kind for term in plan.terms]
     notes = complete(plan)
     net = net_of(plan)
@@ -418,4 +446,8 @@ def _only_place(plan: NetworkTables, kind: str, way: str) -> str:
         else f"each place has something that {way} it; the places are {listed}"
     )
     many = ", as often as there are such places" if len(found) > 1 else ""
-    raise TableFault(f'where {where}? {why}; say --{KINDS[kind]} "{display(choice[0])}"{many}')
+    fault = TableFault(f'where {where}? {why}; say --{KINDS[kind]} "{display(choice[0])}"{many}')
+    fault.option, fault.answers = KINDS[kind], [
+        (place, "") for place in choice if place not in taken
+    ]
+    raise fault

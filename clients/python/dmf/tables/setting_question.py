@@ -70,6 +70,7 @@ class SettingQuestion(TableFault):
     def __init__(self, reason: str, option: str) -> None:
         super().__init__(reason)
         self.option = option
+        self.answers = self.setting.choices
         # Whether a call of Python gets the question, which then names the keywords of the call.
         self.is_call = False
 

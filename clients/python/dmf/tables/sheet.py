@@ -293,6 +293,11 @@ class Sheet:
     positions: Optional[Positions] = None
     gives_way: bool = False
 
+    @property
+    def name(self) -> str:
+        """Return the name of the sheet in its workbook."""
+        return self.path.rpartition("#")[2]
+
     def sample(self, most: int = SAMPLE) -> Rows:
         """Return the first rows that are not blank. What is wrong with a quote is left for
         later."""

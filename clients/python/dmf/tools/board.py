@@ -5,13 +5,15 @@ and what each change would bring.
     dmf-board pipes.csv Reservoir Harbour
     dmf-board problem.max
     dmf-board pipes.dmf.json
+    dmf-board
 
 FILE is a table of arcs as `dmf-problem` reads it, a problem's file, or a
 project, which keeps what was done. If a table is given without a source, the
 source is the one place that no arc enters; without a sink, the sink is the one
-place that no arc leaves. The board opens the page in the browser and prints
-its address, which only this machine can reach. The board ends when the page is
-closed, or at Ctrl-C.
+place that no arc leaves. Without FILE, or if the table leaves something open,
+the page first asks for it, and shows the answer meanwhile. The board opens the
+page in the browser and prints its address, which only this machine can reach.
+The board ends when the page is closed, or at Ctrl-C.
 """
 
 from __future__ import annotations
@@ -27,11 +29,15 @@ from typing import TYPE_CHECKING
 from ..errors import TableFault
 from ..text.spelling import cleaned
 from .command import Status, ToolFault, statuses, warn, write
-from .desk_options import add_project_words, close_desk, open_desk
-from .options import add_words, words_of
+from .desk_options import add_project_words, close_desk, open_desk, settled_desk
+from .options import RaisingParser, add_words, words_of
 
 if TYPE_CHECKING:
+    from collections.abc import Sequence
+
     from ..desk.board.layout import Map, Spot
+    from ..desk.board.responses import Answering
+    from ..desk.board.routes import Board
     from ..desk.board.server import Door, Server
     from ..desk.workspace import Desk
 
@@ -52,10 +58,13 @@ def host_name(word: str) -> str:
     return word
 
 
-def options() -> argparse.Namespace:
-    parser = argparse.ArgumentParser(
+def options(
+    given: Sequence[str], made: type[argparse.ArgumentParser] = argparse.ArgumentParser
+) -> argparse.Namespace:
+    """Return the arguments. A parser of this class reads them."""
+    parser = made(
         NAME,
-        usage="%(prog)s [OPTION..] FILE [SOURCE SINK]",
+        usage="%(prog)s [OPTION..] [FILE [SOURCE SINK]]",
         description=__doc__,
         formatter_class=argparse.RawDescriptionHelpFormatter,
         epilog=statuses(),
@@ -89,9 +98,21 @@ def options() -> argparse.Namespace:
         metavar="FILE",
         help="a table of where the places lie in the picture, with columns x and y, or lon and lat",
     )
+    parser.add_argument(
+        "--import",
+        dest="is_import",
+        action="store_true",
+        help="first show how the table is read, with what it leaves open",
+    )
     add_words(parser)
     add_project_words(parser)
-    return words_of(parser, sys.argv[1:])
+    return words_of(parser, [*given], needs_file=lambda words: not may_ask(words))
+
+
+def may_ask(words: argparse.Namespace) -> bool:
+    """Return True if somebody can settle on a page what a table leaves open."""
+    is_there = has_screen() or bool(sys.stderr and sys.stderr.isatty())
+    return words.is_import or not words.no_browser and is_there
 
 
 def opened(words: argparse.Namespace) -> Desk:
@@ -145,13 +166,15 @@ def _map_of_file(desk: Desk) -> Map | None:
     return Map(spots, positions.is_globe)
 
 
+def has_screen() -> bool:
+    """Return True if this machine has a screen."""
+    variables = os.environ.get("DISPLAY"), os.environ.get("WAYLAND_DISPLAY")
+    return sys.platform in ("darwin", "win32") or any(variables)
+
+
 def show(server: Server) -> Door | None:
     """Start the browser, if this machine has a screen."""
-    if (
-        sys.platform not in ("darwin", "win32")
-        and not os.environ.get("DISPLAY")
-        and not os.environ.get("WAYLAND_DISPLAY")
-    ):
+    if not has_screen():
         return None
     # Imported here, since most boards on a server need no browser.
     import webbrowser
@@ -167,27 +190,76 @@ def show(server: Server) -> Door | None:
     return door
 
 
-def main() -> int:
-    words = options()
-    # A help needs no desk.
+def board_of(words: argparse.Namespace, desk: Desk) -> Board:
+    """Return the board of a desk. Raises a `TableFault` if the map has a fault."""
     from ..desk.board.routes import Board
-    from ..desk.board.server import Server
     from ..desk.project.opener import beside, keep_project
+
+    offer = beside(words.path) if os.path.isfile(words.path) and not words.keep else ""
+    return Board(
+        desk,
+        spots_of(words, desk),
+        keep=lambda path, made: keep_project(path, words, made),
+        offer=offer,
+    )
+
+
+def import_of(words: argparse.Namespace) -> Answering:
+    """Return the import of the table in the arguments, which need not name one."""
+    from ..desk.board.import_options import arguments, command_line, options_of, others_of
+    from ..desk.board.table_import import ImportTool, TableImport
+    from ..tables.loader import split_path
+
+    def open_board(words: argparse.Namespace, desk: Desk) -> Board:
+        desk = settled_desk(words, desk)
+        for note in desk.take_news():
+            warn(NAME, note)
+        board = board_of(words, desk)
+        given = arguments(split_path(words.path)[0], options_of(words), others_of(words))
+        warn(NAME, f"next time: {command_line(given)}")
+        return board
+
+    return TableImport(words, ImportTool(lambda given: options(given, RaisingParser), open_board))
+
+
+def first_answers(words: argparse.Namespace) -> Answering:
+    """Return the board of the file in the arguments; or its import, if they ask for it or name no
+    file, or if the table leaves something open that can be settled on a page."""
+    from ..desk.project.opener import is_project
+    from ..tables.loader import split_path
+
+    is_table = not is_project(words.path) and os.path.isfile(split_path(words.path)[0])
+    if words.is_import and words.path and not is_table:
+        raise ToolFault(f"--import is for tables in files, and {words.path} is none", Status.USAGE)
+    if words.is_import or not words.path:
+        return import_of(words)
+    may_import = is_table and may_ask(words)
+    if may_import and has_screen():
+        # The page asks.
+        words.ask = None
+    try:
+        desk = opened(words)
+    except TableFault as fault:
+        if not may_import:
+            raise
+        warn(NAME, fault.told())
+        return import_of(words)
+    return board_of(words, desk)
+
+
+def main() -> int:
+    words = options(sys.argv[1:])
+    # A help needs no desk.
+    from ..desk.board.server import Server
 
     # If a session has ended or a page has gone, a write to it fails instead of ending the board.
     signal.signal(signal.SIGPIPE, signal.SIG_IGN)
-    desk = opened(words)
+    first = first_answers(words)
     try:
-        offer = beside(words.path) if os.path.isfile(words.path) and not words.keep else ""
-        board = Board(
-            desk,
-            spots_of(words, desk),
-            keep=lambda path, made: keep_project(path, words, made),
-            offer=offer,
-        )
-        server = Server(board, words.port, words.host_name)
+        server = Server(first, words.port, words.host_name)
     except OSError as error:
-        close_desk(NAME, desk)
+        if first.desk:
+            close_desk(NAME, first.desk)
         raise ToolFault(
             f"cannot listen on port {words.port}: {error.strerror}", Status.LOST
         ) from None
@@ -209,11 +281,20 @@ def main() -> int:
         server.serve_forever(poll_interval=0.1)
     finally:
         server.server_close()
-        board.end()
         if door:
             door.remove()
-        if server.lock.acquire(timeout=PATIENCE):
-            close_desk(NAME, board.desk)
-        else:
-            board.desk.break_off("the board has ended")
+        end(server)
     return Status.INTERRUPTED if is_interrupted.is_set() else Status.DONE
+
+
+def end(server: Server) -> None:
+    """End what answers, and close its desk. One that is still used is broken off."""
+    server.board.end()
+    is_free = server.lock.acquire(timeout=PATIENCE)
+    desk = server.board.desk
+    if desk is None:
+        return
+    if is_free:
+        close_desk(NAME, desk)
+    else:
+        desk.break_off("the board has ended")

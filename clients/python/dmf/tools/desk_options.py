@@ -3,12 +3,9 @@
 from __future__ import annotations
 
 import argparse
-import contextlib
-import gc
 import os
 import shlex
 import sys
-from collections.abc import Iterator
 from typing import TYPE_CHECKING
 
 from ..desk.project.records import ENDING
@@ -42,9 +39,9 @@ def open_desk(words: argparse.Namespace, *, with_solve: bool, may_follow: bool =
     what was assumed. With `may_follow`, and if no project keeps the steps, the flows may be
     computed later. Raises a `ToolFault`."""
     # A help needs no desk.
-    from ..desk.project.opener import beside, is_project, keep_project, project_desk
+    from ..desk.project.opener import beside, is_project, project_desk
     from ..desk.steps import DeskFault
-    from ..desk.workspace import Desk
+    from ..desk.workspace import Desk, without_collection
     from ..tables.loader import read_subject, says_table
 
     try:
@@ -70,22 +67,12 @@ def open_desk(words: argparse.Namespace, *, with_solve: bool, may_follow: bool =
         is_watched = _is_watched(words.path)
         if is_watched:
             _tell(f"reading {words.path} ({os.path.getsize(words.path) / 1e6:.0f} MB)")
-        with _without_collection():
+        with without_collection():
             subject = read_subject(words)
             if is_watched:
                 _tell("solving")
             desk = Desk(subject, with_solve=with_solve, may_follow=may_follow and not words.keep)
-        desk.tell(*subject.notes)
-        if not words.keep:
-            if os.path.isfile(beside(words.path)):
-                desk.tell(f"a project of this table exists; {_how_to_open(beside(words.path))}")
-            return desk
-        try:
-            kept = keep_project(beside(words.path), words, desk)
-        finally:
-            desk.end()
-        kept.tell(*subject.notes)
-        return kept
+        return settled_desk(words, desk)
     except Refused as fault:
         raise ToolFault(f"{words.path}: {fault}", status_of(fault)) from None
     except DeskFault as fault:
@@ -98,17 +85,23 @@ def open_desk(words: argparse.Namespace, *, with_solve: bool, may_follow: bool =
         ) from None
 
 
-@contextlib.contextmanager
-def _without_collection() -> Iterator[None]:
-    """Turn garbage collection off for the block: among the objects of a million arcs it takes a
-    third of the time, and finds nothing."""
-    was_enabled = gc.isenabled()
-    gc.disable()
+def settled_desk(words: argparse.Namespace, desk: Desk) -> Desk:
+    """Return the desk of a new project, if the arguments ask for one, or else this desk, with what
+    was assumed. Raise a `DeskFault`."""
+    from ..desk.project.opener import beside, keep_project
+
+    notes = desk.network.subject.notes
+    desk.tell(*notes)
+    if not words.keep:
+        if os.path.isfile(beside(words.path)):
+            desk.tell(f"a project of this table exists; {_how_to_open(beside(words.path))}")
+        return desk
     try:
-        yield
+        kept = keep_project(beside(words.path), words, desk)
     finally:
-        if was_enabled:
-            gc.enable()
+        desk.end()
+    kept.tell(*notes)
+    return kept
 
 
 def _is_watched(path: str) -> bool:

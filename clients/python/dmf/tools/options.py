@@ -7,8 +7,9 @@ import os
 import re
 from collections.abc import Callable
 from decimal import Decimal
-from typing import Any
+from typing import Any, NoReturn
 
+from ..errors import OptionFault
 from ..tables.setting_question import SETTINGS, Setting
 from ..tables.titles import COLUMNS
 from ..text.spelling import cleaned, near
@@ -126,12 +127,24 @@ def add_words(
 
 
 def words_of(
-    parser: argparse.ArgumentParser, given: list[str], *, ends_are_words: bool = True
+    parser: argparse.ArgumentParser,
+    given: list[str],
+    *,
+    ends_are_words: bool = True,
+    needs_file: Callable[[argparse.Namespace], bool] = lambda words: True,
 ) -> argparse.Namespace:
-    """Return the arguments, with the path of the file. The words after the file are the source and
-    the sink, or `others` unless `ends_are_words`."""
+    """Return the arguments, with the path of the file; it is empty if none is named, and the
+    arguments need none. The words after the file are the source and the sink, or `others` unless
+    `ends_are_words`."""
     words = parsed(parser, given, 1 if ends_are_words else None)
-    if not words.fixed:
+    if not words.fixed and needs_file(words):
         parser.error("name the file of a table or a problem")
-    words.path, *words.others = words.fixed
+    words.path, *words.others = words.fixed or [""]
     return words
+
+
+class RaisingParser(argparse.ArgumentParser):
+    """A parser that raises an `OptionFault` for a wrong argument, instead of ending the tool."""
+
+    def error(self, message: str) -> NoReturn:
+        raise OptionFault(message)

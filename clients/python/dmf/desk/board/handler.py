@@ -21,10 +21,9 @@ from typing import ClassVar
 from urllib.parse import parse_qsl, quote, urlsplit
 
 from .connections import LivePages, UnknownConnections
-from .responses import LONGEST_TEXT, PAGE, POLICY, Json, Response, WrongForm, answer, outside
-from .routes import Board
+from .responses import LONGEST_TEXT, POLICY, Answering, Json, Response, WrongForm, answer, outside
 
-LONGEST_BODY = 1 << 20
+LONGEST_BODY, LONGEST_FILE = 1 << 20, 1 << 28
 # The form of the names that pages give themselves.
 PAGE_NAME = "[0-9a-f-]{1,40}"
 
@@ -32,7 +31,8 @@ PAGE_NAME = "[0-9a-f-]{1,40}"
 class Host(BaseServer):
     """What a server provides for the requests of its connections."""
 
-    board: Board
+    # What answers now. It is replaced while the lock is held.
+    board: Answering
     guests: LivePages
     hosts: set[str]
     lock: Lock
@@ -148,26 +148,31 @@ class Handler(BaseHTTPRequestHandler):
             if not path:
                 return Response(303, "text/plain", b"", to=f"/{self.server.token}/")
             self.server.guests.note_request(is_page=True)
-            return self.server.pages[PAGE]
+            return self.server.pages[self.server.board.page]
         if path[1:] in self.server.pages:
             return self.server.pages[path[1:]]
         if path == "/life":
             self._live(urlsplit(self.path).query)
             return None
+        words = self._words()
+        return self._asked(lambda board: board.get(path[1:], words))
+
+    def _words(self) -> dict[str, str]:
+        """Return the parameters of the address. Raise a `WrongForm`."""
+        query = urlsplit(self.path).query
         try:
-            pairs = parse_qsl(
-                urlsplit(self.path).query,
-                keep_blank_values=True,
-                strict_parsing=bool(urlsplit(self.path).query),
-            )
+            pairs = parse_qsl(query, keep_blank_values=True, strict_parsing=bool(query))
         except ValueError:
             raise WrongForm("the parameters of the address must have the form NAME=TEXT") from None
         words = dict(pairs)
         if len(words) != len(pairs) or any(len(text) > LONGEST_TEXT for text in words.values()):
             raise WrongForm("a parameter of the address is given twice, or is too long")
-        return self._asked(lambda: self.server.board.get(path[1:], words))
+        return words
 
     def _post(self, path: str) -> Response | None:
+        if path == "/upload":
+            words, data = self._words(), self._body("application/octet-stream", LONGEST_FILE)
+            return self._asked(lambda board: board.upload(words, data))
         content = self._content()
         if path == "/stop":
             # It stops what has the lock.
@@ -175,30 +180,38 @@ class Handler(BaseHTTPRequestHandler):
         if path == "/left":
             self.server.guests.leave(_page_name(content.get("page")))
             return answer({})
-        return self._asked(lambda: self.server.board.post(path[1:], content))
+        return self._asked(lambda board: board.post(path[1:], content))
 
-    def _asked(self, ask: Callable[[], Response]) -> Response:
+    def _asked(self, ask: Callable[[Answering], Response]) -> Response:
         """Return the board's answer. If there is a newer state then, each page is told."""
         with self.server.lock:
             try:
-                return ask()
+                return ask(self.server.board)
             finally:
-                self.server.guests.tell(self.server.board.desk.turn)
+                self.server.board = self.server.board.successor
+                self.server.guests.tell(self.server.board.turn)
 
     def _content(self) -> Json:
         """Return the content of a request. Raise a `WrongForm`."""
-        if self.headers.get("Content-Type", "").split(";")[0].strip() != "application/json":
-            raise WrongForm("expected the type application/json")
-        length = self.headers.get("Content-Length", "")
-        if not re.fullmatch("[0-9]{1,7}", length) or int(length) > LONGEST_BODY:
-            raise WrongForm(f"expected a body of at most {LONGEST_BODY} bytes")
         try:
-            content = json.loads(self.rfile.read(int(length)).decode())
+            content = json.loads(self._body("application/json", LONGEST_BODY).decode())
         except (ValueError, RecursionError):
             raise WrongForm("the request is not valid JSON") from None
         if not isinstance(content, dict):
             raise WrongForm("expected a JSON object")
         return content
+
+    def _body(self, kind: str, most: int) -> bytes:
+        """Return the body of a request, which has this type. Raise a `WrongForm`."""
+        if self.headers.get("Content-Type", "").split(";")[0].strip() != kind:
+            raise WrongForm(f"expected the type {kind}")
+        length = self.headers.get("Content-Length", "")
+        if not re.fullmatch("[0-9]{1,9}", length) or int(length) > most:
+            raise WrongForm(f"expected a body of at most {most} bytes")
+        body = self.rfile.read(int(length))
+        if len(body) < int(length):
+            raise WrongForm("the request ends before its body does")
+        return body
 
     def _send(self, made: Response) -> None:
         self.send_response(made.status)

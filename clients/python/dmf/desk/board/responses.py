@@ -8,7 +8,10 @@ import re
 from collections.abc import Mapping
 from dataclasses import dataclass
 from pathlib import Path
-from typing import Any, Union
+from typing import TYPE_CHECKING, Any, Optional, Protocol, Union
+
+if TYPE_CHECKING:
+    from ..workspace import Desk
 
 LONGEST_TEXT = 4_000
 # The most arcs that a request may name.
@@ -31,6 +34,42 @@ class Response:
     body: bytes
     file: str = ""
     to: str = ""
+
+
+class Answering(Protocol):
+    """What answers the requests of pages: the import of a table, and then the board of its
+    network."""
+
+    @property
+    def page(self) -> str:
+        """Return the file of the page."""
+
+    @property
+    def turn(self) -> int:
+        """Return the number of the state that pages show."""
+
+    @property
+    def desk(self) -> Optional[Desk]:
+        """Return the desk that is open, if one is."""
+
+    @property
+    def successor(self) -> Answering:
+        """Return what answers the next request."""
+
+    def get(self, path: str, words: dict[str, str]) -> Response:
+        """Return the answer to a request that changes nothing."""
+
+    def post(self, path: str, content: Json) -> Response:
+        """Return the answer to a request that changes something, or tries it."""
+
+    def upload(self, words: dict[str, str], data: bytes) -> Response:
+        """Return the answer to a file that is sent."""
+
+    def stop(self) -> Response:
+        """Stop what is being done, for another thread that does it."""
+
+    def end(self) -> None:
+        """End what goes on beside the requests."""
 
 
 # The answer to a request that is not refused.
@@ -121,7 +160,7 @@ def outside(why: str) -> Response:
 
 FOLDER = Path(__file__).parent / "page"
 PAGE_KINDS = {".html": "text/html", ".css": "text/css", ".js": "text/javascript"}
-PAGE = "index.html"
+PAGE, IMPORT_PAGE = "index.html", "import.html"
 # What the page may do: run its own scripts, have its own style, and ask this server. Text
 # about a network has a content type that is not a script's.
 POLICY = (

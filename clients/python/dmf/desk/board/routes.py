@@ -29,6 +29,8 @@ from .overview import Overview
 from .picture import Picture
 from .positions import keep_spots, kept_spots, spots_apart
 from .responses import (
+    PAGE,
+    Answering,
     Fields,
     Json,
     Made,
@@ -61,6 +63,7 @@ MOST_SWEPT = 5_000
 Keep = Callable[[str, Desk], Desk]
 CHANGED = "the network has changed in another tab: look again"
 STOPPED = "it was stopped"
+NO_PAGE = {"error": "no such page"}
 
 
 class Effect(Enum):
@@ -85,6 +88,9 @@ class PageRoute(NamedTuple):
 
 class Board:
     """The answers to a page's requests about a desk."""
+
+    page = PAGE
+    desk: Desk
 
     def __init__(
         self,
@@ -131,15 +137,29 @@ class Board:
         self._show(self._keep_in(self._offer, before), self.picture.places.spots)
         before.end()
 
+    @property
+    def turn(self) -> int:
+        """Return the number of the state that pages show."""
+        return self.desk.turn
+
+    @property
+    def successor(self) -> Answering:
+        """Return what answers the next request."""
+        return self
+
     def end(self) -> None:
         """End what goes on beside the requests."""
         self._worth_finder.end()
+
+    def upload(self, words: dict[str, str], data: bytes) -> Response:
+        """Refuse a file, since the network is open."""
+        return answer(NO_PAGE, 404)
 
     def get(self, path: str, words: dict[str, str]) -> Response:
         """Return the answer to a request that changes nothing."""
         route = ROUTES.get(path)
         if route is None or route.judge:
-            return answer({"error": "no such page"}, 404)
+            return answer(NO_PAGE, 404)
         judge_words(words, tuple(route.fields))
         # What can be stopped is not tried again.
         tries, needs_flows = 1 if route.can_stop else 2, path != "state"
@@ -172,7 +192,7 @@ class Board:
                 raise WrongForm(f"what must be one of {', '.join(acts)}")
         route = ROUTES.get(path)
         if route is None or route.judge is None:
-            return answer({"error": "no such page"}, 404)
+            return answer(NO_PAGE, 404)
         if route.effect is Effect.CHANGE:
             shown = judged_addresses(content.pop("shown", []))
             route.judge(content)

@@ -22,8 +22,7 @@ from typing import Any
 
 from .connections import LivePages, UnknownConnections, user_of
 from .handler import Handler, Host
-from .responses import LOOPBACK, WAY_IN, pages
-from .routes import Board
+from .responses import LOOPBACK, WAY_IN, Answering, pages
 
 
 class Door:
@@ -60,7 +59,7 @@ class Server(ThreadingHTTPServer, Host):
     allow_reuse_address = False
     request_queue_size = 1024
 
-    def __init__(self, board: Board, port: int = 0, names: Sequence[str] = ()) -> None:
+    def __init__(self, board: Answering, port: int = 0, names: Sequence[str] = ()) -> None:
         """Raise an OSError if the port is taken."""
         super().__init__((LOOPBACK, port), Handler, bind_and_activate=False)
         self.strangers = UnknownConnections()
@@ -79,7 +78,7 @@ class Server(ThreadingHTTPServer, Host):
         self.hosts = {here, f"localhost:{port}", *others, *map(str.lower, names)}
         self.addresses = [f"http://{host}/{self.token}/" for host in (here, *others)]
         self.pages = pages()
-        self.guests = LivePages(board.desk.turn)
+        self.guests = LivePages(board.turn)
 
     def _listen(self, port: int) -> None:
         """Listen at a port, or at a free one. It takes the same port of the other family of

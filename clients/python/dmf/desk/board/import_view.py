@@ -1,0 +1,210 @@
+"""What the page of an import shows: the file, what is said of it, its first rows, what each column
+is taken for, what is open or wrong, and the answer."""
+
+from __future__ import annotations
+
+import argparse
+import os
+from collections.abc import Sequence
+from dataclasses import dataclass, field
+from itertools import islice
+from typing import Any, Optional
+
+from ...errors import FileFault, OptionFault, TableFault
+from ...quantity import plain_text
+from ...tables.amount_columns import NAMES
+from ...tables.loader import LoadedProblem, Stages, split_path, wanted_of
+from ...tables.preview import IGNORED, Preview, preview_of
+from ...tables.problem_builder import KINDS
+from ...tables.setting_question import SETTINGS
+from ...tables.sheet import MOST_FAULTS
+from ...tables.titles import COLUMNS, START_OF_LINE
+from ..steps import unforeseen
+from ..workspace import Desk
+from .import_options import SHEET
+from .responses import Json
+
+MOST_PLACES = 2_000
+ROLES = [
+    *[(column, {"tail": "from", "head": "to"}.get(column, column)) for column in COLUMNS],
+    ("", "kept as it is"),
+    (IGNORED, "kept as a remark"),
+]
+PROBLEM = "a problem file"
+
+
+@dataclass
+class Reading:
+    """What a file and the words about it have come to: the stages of its reading; the problem and
+    its desk, or why there is none."""
+
+    words: argparse.Namespace
+    stages: Stages = field(default_factory=Stages)
+    subject: Optional[LoadedProblem] = None
+    desk: Optional[Desk] = None
+    fault: Optional[BaseException] = None
+
+    @property
+    def kind(self) -> str:
+        """Return what the file is; empty if it cannot be read."""
+        if self.stages.kind:
+            return self.stages.kind.what.partition(" (")[0]
+        return PROBLEM if self.subject else ""
+
+
+def import_view(reading: Reading, told: Sequence[str]) -> Json:
+    """Return what a page shows of a reading. `told` has a fault of the options, if there is one."""
+    stages, fault = reading.stages, reading.fault
+    shown = preview_of(stages, wanted_of(reading.words).reading)
+    plan = stages.plan
+    notes = reading.subject.notes if reading.subject else plan.notes if plan else ()
+    return {
+        "file": file_view(reading),
+        "settings": settings_view(reading, shown),
+        "preview": preview_view(shown),
+        "columns": [
+            {
+                "at": it.place,
+                "title": it.title,
+                "option": it.option,
+                "role": it.role,
+                "sure": it.sure,
+            }
+            for it in shown.columns
+        ],
+        "roles": ROLES if stages.sheet else [],
+        "told": [*notes],
+        "question": None if told else question_view(fault),
+        "places": [*islice(stages.table.places, MOST_PLACES)] if stages.table else [],
+        "ends": ends_view(reading),
+        "answer": None if told else answer_view(reading),
+        **faults_view(fault, told, reading.words.path),
+    }
+
+
+def file_view(reading: Reading) -> Json:
+    path = os.path.abspath(split_path(reading.words.path)[0])
+    folder, name = os.path.split(path)
+    size = os.path.getsize(path) if os.path.isfile(path) else 0
+    return {"name": name, "folder": folder, "kind": reading.kind, "bytes": size}
+
+
+def preview_view(shown: Preview) -> Json:
+    header = shown.header
+    above = [line for line in shown.lines if header and line < header]
+    return {
+        "rows": shown.rows,
+        "lines": [*shown.lines],
+        "header": header,
+        "left_out": above,
+    }
+
+
+def settings_view(reading: Reading, shown: Preview) -> list[Json]:
+    """Return the settings that a file of this kind reads."""
+    stages = reading.stages
+    if stages.kind is None:
+        return []
+    sign = stages.table.amounts.sign if stages.table else ""
+    found = f"as found: a {NAMES[sign]}" if sign else "as found"
+    sheets = [sheet.name for sheet in stages.sheets if "#" in sheet.path]
+    settings: list[tuple[str, str, Sequence[tuple[str, str]]]] = []
+    if len(sheets) > 1:
+        chosen = f"as found: {stages.sheet.name}" if stages.sheet else "not said"
+        settings.append((SHEET, "Sheet", [("", chosen), *[(name, name) for name in sheets]]))
+    settings += [
+        ("decimal", "Decimal sign", [("", found), (".", "a point"), (",", "a comma")]),
+        (
+            "missing",
+            "Missing capacities",
+            [("", "are a fault"), ("0", "are 0"), ("unlimited", "are without a limit")],
+        ),
+        ("both_ways", "Each row leads both ways", []),
+        ("matrix", "Rows and titles are places (a matrix)", []),
+        ("scale", "Multiply each number by", []),
+    ]
+    for option in stages.kind.settings:
+        choices = SETTINGS[option].choices if len(SETTINGS[option].choices) > 1 else ()
+        settings.append((option, LABELS[option], [("", "not said"), *choices] if choices else []))
+    if reading.words.tolerance or any(it.title == START_OF_LINE for it in shown.columns):
+        settings.append(("tolerance", LABELS["tolerance"], []))
+    if not sheets:
+        settings.append(("encoding", "Encoding", []))
+    return [{"option": it, "label": label, "choices": some} for it, label, some in settings]
+
+
+LABELS = {
+    "velocity": "Velocity of water (m/s)",
+    "tanks": "Tanks",
+    "tolerance": "Join ends of lines up to this far apart",
+}
+
+
+def question_view(fault: Optional[BaseException]) -> Optional[Json]:
+    """Return the question that one option settles, or None."""
+    if not isinstance(fault, TableFault) or not fault.option:
+        return None
+    return {
+        "text": fault.reason.partition("; ")[0],
+        "option": fault.option,
+        "choices": [*fault.answers],
+    }
+
+
+def faults_view(fault: Optional[BaseException], told: Sequence[str], path: str) -> Json:
+    """Return the faults: those of options, or those in cells."""
+    if told or not isinstance(fault, TableFault):
+        texts = told or ([_reason(fault)] if fault else [])
+        return {"faults": [_fault_view(text) for text in texts], "more_faults": 0}
+    if fault.option:
+        return {"faults": [], "more_faults": 0}
+    all_of_them = [fault, *fault.others]
+    return {
+        "faults": [_cell_fault_view(it, path) for it in all_of_them[:MOST_FAULTS]],
+        "more_faults": fault.untold + max(0, len(all_of_them) - MOST_FAULTS),
+    }
+
+
+def _reason(fault: BaseException) -> str:
+    return str(fault) if isinstance(fault, (FileFault, OptionFault)) else unforeseen(fault)
+
+
+def _fault_view(text: str, line: int = 0, column: int = 0) -> Json:
+    return {"text": text, "line": line, "column": column}
+
+
+def _cell_fault_view(fault: TableFault, path: str) -> Json:
+    """Return a fault with its cell. The text names the file only if it is another one."""
+    text = fault.told()
+    if split_path(fault.path)[0] != split_path(path)[0]:
+        return _fault_view(text)
+    text = text.removeprefix(fault.path).lstrip(":, ")
+    return _fault_view(text, fault.line, fault.column if fault.line else 0)
+
+
+def ends_view(reading: Reading) -> Json:
+    """Return the sources and the sinks, and which of these two were assumed."""
+    plan = reading.stages.plan
+    ends: dict[str, Any] = {"source": [], "sink": [], "assumed": []}
+    if plan is None:
+        return ends
+    named = wanted_of(reading.words).kinds_named
+    for kind, end in KINDS.items():
+        terms = plan.of_kind(kind)
+        ends[end] = [term.place for term in terms[:MOST_PLACES]]
+        if terms and kind not in named and not any(term.line for term in terms):
+            ends["assumed"].append(end)
+    return ends
+
+
+def answer_view(reading: Reading) -> Optional[Json]:
+    """Return the answer in the words of a board's headline, or None."""
+    if reading.desk is None:
+        return None
+    network = reading.desk.network
+    unit = network.measure.told_unit
+    said = (
+        f"{plain_text(reading.desk.value)}{f' {unit}' if unit else ''} can be sent from "
+        f"{network.told_source} to {network.told_sink}"
+    )
+    return {"said": said, "rows": len(network.pictured())}
