@@ -148,3 +148,10 @@ class RaisingParser(argparse.ArgumentParser):
 
     def error(self, message: str) -> NoReturn:
         raise OptionFault(message)
+
+    def parse_known_intermixed_args(self, args: Any = None, namespace: Any = None) -> Any:
+        # The parser of Python takes these dashes off, and leaves no value.
+        for word in args or ():
+            if found := re.fullmatch("(--[a-z-]+)=--", word):
+                self.error(f"argument {found[1]}: two dashes are not a value")
+        return super().parse_known_intermixed_args(args, namespace)

@@ -10,7 +10,7 @@ from dataclasses import dataclass, field
 from itertools import islice
 from typing import Any, Optional
 
-from ...errors import FileFault, OptionFault, TableFault
+from ...errors import MOST_LINES, FileFault, OptionFault, TableFault
 from ...quantity import plain_text
 from ...tables.amount_columns import NAMES
 from ...tables.loader import LoadedProblem, Stages, split_path, wanted_of
@@ -174,12 +174,14 @@ def _fault_view(text: str, line: int = 0, column: int = 0) -> Json:
 
 
 def _cell_fault_view(fault: TableFault, path: str) -> Json:
-    """Return a fault with its cell. The text names the file only if it is another one."""
-    text = fault.told()
+    """Return a fault with its cell. The text has the place only if it is in another file."""
     if split_path(fault.path)[0] != split_path(path)[0]:
-        return _fault_view(text)
-    text = text.removeprefix(fault.path).lstrip(":, ")
-    return _fault_view(text, fault.line, fault.column if fault.line else 0)
+        return _fault_view(fault.told())
+    lines = [str(line) for line in fault.more_lines[:MOST_LINES]]
+    if len(fault.more_lines) > MOST_LINES:
+        lines.append("..")
+    more = f" (also in line{'s' * (len(lines) > 1)} {', '.join(lines)})" if lines else ""
+    return _fault_view(fault.reason + more, fault.line, fault.column if fault.line else 0)
 
 
 def ends_view(reading: Reading) -> Json:

@@ -1,0 +1,449 @@
+"""The requests of the page on which a table is imported: what it shows of sheets that were worked
+by hand, what it opens, and each way in which a request or a file is refused."""
+
+from __future__ import annotations
+
+import json
+import os
+import resource
+import shlex
+import socket
+from pathlib import Path
+from typing import Any
+from urllib.parse import quote
+
+import pytest
+from board_running import JSON, Board, board
+from built import heed_interrupts
+from desk_shared import run
+from dmf.desk.board.import_options import (
+    arguments,
+    command_line,
+    nothing_said,
+    options_of,
+    others_of,
+)
+from dmf.errors import TableFault
+from dmf.tables.loader import split_path
+from dmf.tools.board import first_answers, may_ask, options
+from dmf.tools.command import ToolFault
+
+pytestmark = pytest.mark.seconds(10)
+# From Res over A to Town: 40 by the flows, and 900 by the lengths. No title says which they are.
+OPEN = "Start node,End node,Length (m),Q [m\u00b3/h]\nRes,A,1200,50\nA,Town,900,40\n"
+PLAIN = "from,to,capacity\nRes,A,50\nA,Town,40\n"
+BYTES = {"Content-Type": "application/octet-stream"}
+MOST = 1 << 28
+
+
+def importing(folder: Path, text: str = "", *words: str, name: str = "s.csv") -> Any:
+    """A board that begins with the import of a table, or of none, in this folder."""
+    if text:
+        (folder / name).write_text(text, encoding="utf-8")
+    return board("--import", *([name] if text else []), *words, cwd=folder)
+
+
+def asked(it: Board, path: str, content: object) -> tuple[int, Any]:
+    """The answer to a request that is posted."""
+    status, _, told = it.ask(it.root + path, json.dumps(content).encode(), **JSON)
+    return status, json.loads(told)
+
+
+def said(it: Board, **options: object) -> Any:
+    """The view once these options are said, and no others."""
+    status, view = asked(it, "import", {"options": {**nothing_said(), **options}})
+    assert status == 200, view
+    return view
+
+
+def sent(it: Board, name: str, data: bytes, **headers: str) -> tuple[int, Any]:
+    """The answer to a file that is sent."""
+    path = f"{it.root}upload?name={quote(name, safe='')}"
+    status, _, told = it.ask(path, data, **{**BYTES, **headers})
+    return status, json.loads(told)
+
+
+def roles(view: Any) -> list[tuple[str, str]]:
+    return [(column["role"], column["sure"]) for column in view["columns"]]
+
+
+def test_question(tmp_path: Path) -> None:
+    """Two columns have numbers: the question has both, and the answer is that of the one that is
+    chosen. Then the board is open, and what it shows is the same."""
+    with importing(tmp_path, OPEN) as it:
+        view = it.told("import")
+        assert view["question"]["option"] == "capacity"
+        assert view["question"]["text"].startswith("which column is the capacity?")
+        assert view["question"]["choices"] == [
+            ["Length (m)", "as in 1200, 900"],
+            ["Q [m\u00b3/h]", "as in 50, 40"],
+        ]
+        assert (view["answer"], view["faults"], view["places"]) == (None, [], [])
+        assert view["file"] == {
+            "name": "s.csv",
+            "folder": str(tmp_path),
+            "kind": "a CSV file",
+            "bytes": len(OPEN.encode()),
+        }
+        assert view["preview"]["rows"][1] == ["Res", "A", "1200", "50"]
+        assert roles(view) == [("tail", "named"), ("head", "named"), ("", ""), ("", "")]
+        assert asked(it, "open", {})[0] == 409
+        assert said(it, capacity="Length (m)")["answer"]["said"] == (
+            "900 m can be sent from Res to Town"
+        )
+        view = said(it, capacity="Q [m\u00b3/h]", ignore=["Length (m)"])
+        assert view["answer"] == {"said": "40 m\u00b3/h can be sent from Res to Town", "rows": 2}
+        assert roles(view)[2:] == [("ignore", "chosen"), ("capacity", "chosen")]
+        assert (view["question"], view["places"]) == (None, ["Res", "A", "Town"])
+        assert view["ends"] == {
+            "source": ["Res"],
+            "sink": ["Town"],
+            "assumed": ["source", "sink"],
+        }
+        assert shlex.split(view["command"]) == [
+            *("dmf", "board", "s.csv", "--capacity", "Q [m\u00b3/h]", "--ignore", "Length (m)")
+        ]
+        assert asked(it, "open", {}) == (200, {"opened": True})
+        assert it.state()["value"] == "40"
+        for path in "import", "open":
+            assert asked(it, path, {})[0] == 404
+        assert it.ask(it.root + "import")[0] == sent(it, "t.csv", b"")[0] == 404
+        assert b'id="picture"' in it.ask(it.root)[2]
+
+
+def test_titles_below_others(tmp_path: Path) -> None:
+    """What stands above the titles is left out, and each line is the file's."""
+    with importing(tmp_path, "Plan of 2024\n\n" + PLAIN) as it:
+        view = it.told("import")
+        assert view["preview"]["lines"] == [1, 3, 4, 5]
+        assert (view["preview"]["header"], view["preview"]["left_out"]) == (3, [1])
+        assert view["answer"]["said"] == "40 can be sent from Res to Town"
+
+
+def test_without_titles(tmp_path: Path) -> None:
+    """Which column is the capacity is sure, as the only one with numbers; the ends are in order."""
+    with importing(tmp_path, "Res,A,50\nA,Town,40\n") as it:
+        view = it.told("import")
+        assert (view["preview"]["header"], view["preview"]["left_out"]) == (None, [])
+        assert roles(view) == [("tail", ""), ("head", ""), ("capacity", "only")]
+        assert [column["option"] for column in view["columns"]] == [
+            f"column {number}" for number in (1, 2, 3)
+        ]
+
+
+def test_cells(tmp_path: Path) -> None:
+    """Seven rows have no tail: five of these are told, each with its cell."""
+    rows = "".join(f",B{row},{row}\n" for row in range(1, 8))
+    with importing(tmp_path, "from,to,capacity\nRes,A,50\n" + rows) as it:
+        view = it.told("import")
+        assert [(fault["line"], fault["column"]) for fault in view["faults"]] == [
+            (line, 1) for line in range(3, 8)
+        ]
+        assert (view["more_faults"], view["answer"], view["question"]) == (2, None, None)
+        assert view["faults"][0]["text"] == "no tail"
+    with importing(tmp_path, PLAIN.replace("50", "n/a").replace("40", "n/a")) as it:
+        (fault,) = it.told("import")["faults"]
+        assert (fault["line"], fault["column"]) == (2, 3)
+        assert "'n/a' is not a number" in fault["text"] and "(also in line 3)" in fault["text"]
+
+
+def test_ends(tmp_path: Path) -> None:
+    """Two places may be the source: that is a question. One that is not in the table is a fault
+    without a line."""
+    table = "from,to,capacity\nRes,A,50\nMill,A,20\nA,Town,60\n"
+    with importing(tmp_path, table) as it:
+        question = it.told("import")["question"]
+        assert (question["option"], question["choices"]) == ("source", [["Res", ""], ["Mill", ""]])
+        assert said(it, source=["Res", "Mill=5"])["answer"]["said"].startswith("55 can be sent")
+        view = said(it, source=["Rs"])
+        assert [(it["line"], "'Rs'" in it["text"]) for it in view["faults"]] == [(0, True)]
+        assert view["places"] == ["Res", "A", "Mill", "Town"]
+
+
+def test_settings(tmp_path: Path) -> None:
+    """What else may be said: the decimal sign, missing capacities, both ways, a factor; wrong
+    values are faults that name their option."""
+    with importing(tmp_path, 'from,to,capacity\nRes,A,"1,200"\nA,Town,\n') as it:
+        assert it.told("import")["faults"]
+        view = said(it, decimal=",", missing="unlimited")
+        assert view["answer"]["said"] == "1.2 can be sent from Res to Town"
+        assert view["settings"][0]["choices"][0] == ["", "as found: a comma"]
+        assert said(it, decimal=".", missing="0")["answer"]["said"].startswith("0 can be sent")
+        for option in "scale", "decimal", "encoding", "velocity", "missing", "tanks", "tolerance":
+            view = said(it, **{option: "no such"})
+            (fault,) = view["faults"]
+            assert option in fault["text"] and fault["line"] == 0 and view["answer"] is None
+            assert view["options"][option] == "no such" and view["preview"]["rows"]
+        (fault,) = said(it, capacity="none such")["faults"]
+        assert "'none such'" in fault["text"]
+        assert said(it, tail="from", head="from")["faults"]
+        for odd in "--", "-", "--help", "\ud800", "\0", "x\n", "$(id)":
+            assert said(it, capacity=odd, encoding=odd, sheet=odd, source=[odd])["faults"], odd
+
+
+def test_sheets(tmp_path: Path) -> None:
+    """Two sheets have arcs: which one is meant is a question."""
+    import openpyxl
+
+    book = openpyxl.Workbook()
+    for sheet, most in (book.active, 5), (book.create_sheet("South"), 7):
+        for row in ["from", "to", "capacity"], ["Res", "Town", most]:
+            sheet.append(row)
+    book.active.title = "North"
+    book.save(tmp_path / "net.xlsx")
+    with board("--import", "net.xlsx", cwd=tmp_path) as it:
+        view = it.told("import")
+        assert view["file"]["kind"] == "a workbook"
+        assert view["question"]["option"] == "sheet"
+        assert view["question"]["choices"] == [["North", ""], ["South", ""]]
+        view = said(it, sheet="South")
+        assert view["answer"]["said"] == "7 can be sent from Res to Town"
+        assert view["command"] == "dmf board 'net.xlsx#South'"
+        assert "encoding" not in [setting["option"] for setting in view["settings"]]
+
+
+def test_problem(tmp_path: Path) -> None:
+    """A problem says all of itself."""
+    with importing(tmp_path, "p max 2 1\nn 1 s\nn 2 t\na 1 2 6\n", name="p.max") as it:
+        view = it.told("import")
+        assert (view["file"]["kind"], view["settings"]) == ("a problem file", [])
+        assert view["answer"] == {"said": "6 can be sent from 1 to 2", "rows": 1}
+        assert said(it, both_ways=True)["faults"][0]["line"] == 0
+
+
+def test_malformed(tmp_path: Path) -> None:
+    with importing(tmp_path, PLAIN) as it:
+        whole = nothing_said()
+        wrong: list[object] = [
+            {},
+            {"options": []},
+            {"options": {**whole, "more": ""}},
+            {"options": {name: value for name, value in whole.items() if name != "tail"}},
+            {"options": {**whole, "tail": 3}},
+            {"options": {**whole, "tail": "x" * 4_001}},
+            {"options": {**whole, "ignore": "x"}},
+            {"options": {**whole, "source": [3]}},
+            {"options": {**whole, "source": ["x"] * 2_001}},
+            {"options": {**whole, "matrix": "yes"}},
+            {"options": whole, "more": 1},
+        ]
+        for content in wrong:
+            assert asked(it, "import", content)[0] == 400, content
+        assert it.ask(it.root + "import?x=1")[0] == asked(it, "open", {"x": 1})[0] == 400
+        for path in "state", "turn", "rows?first=0", "picture.svg", "none":
+            status, _, told = it.ask(it.root + path)
+            assert (status, json.loads(told)) == (409, {"error": "no table is open"})
+        assert asked(it, "do", {"what": "undo", "turn": 1})[0] == 409
+        assert asked(it, "stop", {}) == (200, {})
+        assert it.told("import")["answer"]["said"] == "40 can be sent from Res to Town"
+
+
+def test_upload(tmp_path: Path) -> None:
+    """A file that is dropped is kept in the folder, and read; the same one again is the one that is
+    there, and another one with its name is refused. What was said of another table is reset."""
+    with importing(tmp_path, OPEN, "--capacity", "Length (m)") as it:
+        assert it.told("import")["options"]["capacity"] == "Length (m)"
+        name = "caf\u00e9 #1.csv"
+        for _ in range(2):
+            status, view = sent(it, name, PLAIN.encode())
+            assert (status, view["options"]) == (200, nothing_said())
+            assert (view["file"]["name"], view["file"]["folder"]) == (name, str(tmp_path))
+            assert view["answer"]["said"] == "40 can be sent from Res to Town"
+        assert (tmp_path / name).read_bytes() == PLAIN.encode()
+        status, told = sent(it, name, b"other")
+        assert status == 409 and "already exists" in told["error"]
+        assert it.told("import")["file"]["name"] == name
+        status, view = sent(it, "picture.csv", b"\x89PNG\r\n\x1a\n\0\0")
+        assert status == 200 and view["faults"] and view["answer"] is None
+        assert asked(it, "open", {})[0] == 409
+
+
+HOSTILE = [
+    "",
+    ".",
+    "..",
+    "../x.csv",
+    "/etc/x.csv",
+    "a/b.csv",
+    "a\\b.csv",
+    ".bashrc",
+    "a\nb.csv",
+    "a\0b.csv",
+    "a\u202eb.csv",
+    "x" * 256 + ".csv",
+    "net.dmf.json",
+    "folder",
+    "nowhere.csv",
+]
+
+
+def test_hostile_uploads(tmp_path: Path) -> None:
+    """No name leads out of the folder, or to what is no file; nothing is written."""
+    folder = tmp_path / "in"
+    (folder / "folder").mkdir(parents=True)
+    (folder / "nowhere.csv").symlink_to(tmp_path / "outside.csv")
+    with importing(folder) as it:
+        assert it.told("import")["file"] is None
+        before = sorted(tmp_path.rglob("*"))
+        for name in HOSTILE:
+            status, told = sent(it, name, PLAIN.encode())
+            assert status == 409 and told["error"], name
+        path = f"{it.root}upload"
+        assert (
+            it.ask(path, b"x", **BYTES)[0] == it.ask(f"{path}?name=a&b=c", b"x", **BYTES)[0] == 400
+        )
+        assert it.ask(f"{path}?name=a.csv", b"x", **JSON)[0] == 400
+        for length in str(MOST + 1), "-1", "x", "9" * 30:
+            assert sent(it, "a.csv", b"", Content_Length=length)[0] == 400
+        assert sorted(tmp_path.rglob("*")) == before
+        assert asked(it, "open", {})[0] == 409
+        assert it.told("import")["command"] == "dmf board"
+
+
+def test_broken_upload(tmp_path: Path) -> None:
+    """A file of which a part is sent alone is not kept."""
+    with importing(tmp_path) as it:
+        with socket.create_connection(("127.0.0.1", it.port)) as line:
+            head = f"POST {it.root}upload?name=a.csv HTTP/1.1\r\nHost: {it.host}\r\n"
+            head += "Content-Type: application/octet-stream\r\nContent-Length: 100\r\n\r\n"
+            line.sendall(head.encode() + b"from,to")
+            line.shutdown(socket.SHUT_WR)
+            assert b" 400 " in line.recv(1 << 12)
+        assert list(tmp_path.iterdir()) == []
+
+
+def test_no_room(tmp_path: Path) -> None:
+    """Where the disk takes no more, nothing is left of the file."""
+
+    def limit() -> None:
+        heed_interrupts()
+        resource.setrlimit(resource.RLIMIT_FSIZE, (1 << 16, 1 << 16))
+
+    with board("--import", cwd=tmp_path, preexec=limit) as it:
+        status, told = sent(it, "a.csv", b"x" * (1 << 17))
+        assert status == 409 and "cannot be written" in told["error"]
+        assert list(tmp_path.iterdir()) == []
+        assert sent(it, "b.csv", PLAIN.encode())[0] == 200
+
+
+def test_two_tabs(tmp_path: Path) -> None:
+    """Each sees what the other says, by a turn below that of any board."""
+    with importing(tmp_path, OPEN) as it:
+        first = it.told("import")["turn"]
+        second = said(it, capacity="Q [m\u00b3/h]")["turn"]
+        assert second < first < 1 and it.told("import")["turn"] == second
+        assert it.told("import")["options"]["capacity"] == "Q [m\u00b3/h]"
+        assert asked(it, "open", {})[0] == 200
+        assert it.turn() == 1 and asked(it, "open", {})[0] == 404
+
+
+def test_changed_file(tmp_path: Path) -> None:
+    """The view is that of the file as it is, and no other one is opened."""
+    with importing(tmp_path, PLAIN) as it:
+        assert it.told("import")["answer"]["said"].startswith("40 ")
+        (tmp_path / "s.csv").write_text(PLAIN.replace("40", "3"))
+        status, told = asked(it, "open", {})
+        assert status == 409 and "changed" in told["error"]
+        assert it.told("import")["answer"]["said"].startswith("3 ")
+        (tmp_path / "s.csv").unlink()
+        view = it.told("import")
+        assert "cannot read s.csv" in view["faults"][0]["text"] and view["answer"] is None
+        assert it.end() == 130
+
+
+def test_kept(tmp_path: Path) -> None:
+    """A project keeps what was said."""
+    with importing(tmp_path, OPEN, "--keep") as it:
+        said(it, capacity="Q [m\u00b3/h]", source=["Res"])
+        assert asked(it, "open", {})[0] == 200
+        assert it.state()["kept_in"] == "s.dmf.json"
+        it.end()
+    kept = json.loads((tmp_path / "s.dmf.json").read_text())["table"]["options"]
+    assert (kept["capacity"], kept["source"]) == ("Q [m\u00b3/h]", ["Res"])
+    with board("s.dmf.json", cwd=tmp_path) as again:
+        assert again.state()["value"] == "40"
+    with importing(tmp_path, OPEN, "--keep", "--capacity", "Q [m\u00b3/h]") as it:
+        assert it.told("import")["answer"]
+        status, told = asked(it, "open", {})
+        assert status == 409 and "s.dmf.json" in told["error"]
+        assert it.told("import")["answer"]
+
+
+def test_map(tmp_path: Path) -> None:
+    """A faulty map is told, and the import goes on."""
+    (tmp_path / "map.csv").write_text("place,x,y\nRes,0,none\n")
+    with importing(tmp_path, PLAIN, "--map", "map.csv") as it:
+        assert it.told("import")["command"] == "dmf board s.csv --map map.csv"
+        status, told = asked(it, "open", {})
+        assert status == 409 and "map.csv" in told["error"]
+        assert it.told("import")["answer"]["said"] == "40 can be sent from Res to Town"
+
+
+def test_scripts(tmp_path: Path, monkeypatch: pytest.MonkeyPatch) -> None:
+    """In a script, what is open stays an error; where there is a screen, the page asks."""
+    path = tmp_path / "s.csv"
+    path.write_text(OPEN, encoding="utf-8")
+    screenless = {"DISPLAY": "", "WAYLAND_DISPLAY": ""}
+    for words in (), ("--no-browser",):
+        ran = run("dmf-board", *words, str(path), **screenless)
+        assert ran.returncode == 3 and "which column is the capacity?" in ran.stderr
+        ran = run("dmf-board", *words, **screenless)
+        assert ran.returncode == 2 and "name the file of a table or a problem" in ran.stderr
+    ran = run("dmf-board", "--import", str(tmp_path / "s.dmf.json"))
+    assert ran.returncode == 2 and "--import is for tables" in ran.stderr
+    for name, text in screenless.items():
+        monkeypatch.setenv(name, text)
+    monkeypatch.setattr("sys.stderr", None)
+    with pytest.raises(TableFault):
+        first_answers(options([str(path)]))
+    monkeypatch.setenv("DISPLAY", ":99")
+    assert may_ask(options([])) and not may_ask(options(["--no-browser", "s.csv"]))
+    assert first_answers(options([])).page == first_answers(options([str(path)])).page
+    assert first_answers(options([])).page == "import.html"
+    with pytest.raises(TableFault):
+        first_answers(options(["--no-browser", str(path)]))
+    with pytest.raises(ToolFault):
+        first_answers(options(["--import", str(tmp_path)]))
+
+
+def test_ends_of_the_board(tmp_path: Path) -> None:
+    """A taken port is told, and Ctrl-C ends an import as it ends a board."""
+    (tmp_path / "s.csv").write_text(PLAIN)
+    with socket.socket() as other:
+        other.bind(("127.0.0.1", 0))
+        taken = str(other.getsockname()[1])
+        ran = run("dmf-board", "--import", "--no-browser", "--port", taken, str(tmp_path / "s.csv"))
+        assert ran.returncode == 4 and "cannot listen" in ran.stderr
+    with importing(tmp_path, PLAIN) as it:
+        assert it.told("import")["answer"]
+        assert it.end() == 130
+    assert not it.sessions()
+
+
+# Command lines: each option, in each form, and texts that look like options.
+LINES = [
+    ["s.csv"],
+    ["net.xlsx#South"],
+    ["--tail=-x", "--", "-odd.csv"],
+    ["s.csv", "Res", "Town"],
+    ["s.csv", "--source", "Res", "--source", "Mill=5", "--sink=-", "--sink", "a 'b' \"c\" $d"],
+    ["s.csv", "--tail", "von", "--head", "nach", "--capacity", "column 3", "--name", "\u00e9"],
+    ["s.csv", "--ignore", "a", "--ignore=---", "--decimal", ",", "--missing", "unlimited"],
+    ["s.csv", "--matrix", "--both-ways", "--raw-names", "--keep"],
+    ["s.csv", "--scale", "2.50", "--encoding", "latin-1", "--velocity", "1.5", "--tolerance", "0"],
+    ["s.csv", "--tanks", "none", "--places", "p.csv#q", "--map", "m.csv", "--sinks", "d.csv"],
+    ["s.csv", "--sources", "a", "--node-limits=-b"],
+]
+
+
+@pytest.mark.parametrize("given", LINES, ids=map(" ".join, LINES))
+def test_command_line(given: list[str]) -> None:
+    """The command on the page says what the arguments said."""
+    words = options(["--import", *given])
+    path = split_path(words.path)[0]
+    told = command_line(arguments(path, options_of(words), others_of(words)))
+    again = options([*shlex.split(told)[2:]])
+    same = {**vars(words), "places": [], "fixed": [], "is_import": False, "ask": None}
+    found = {**vars(again), "places": [], "fixed": [], "ask": None}
+    assert os.path.normpath(found.pop("path")) == os.path.normpath(same.pop("path"))
+    assert found == same
