@@ -39,5 +39,7 @@ async function tried(path, content) {
   return null;
 }
 
-/** @param {object} content */
-export const posted = (content) => ({ method: "POST", headers: { "Content-Type": "application/json" }, body: JSON.stringify(content) });
+/** @param {object | Blob} content an object, or the bytes of a file */
+export const posted = (content) => (content instanceof Blob
+  ? { method: "POST", headers: { "Content-Type": "application/octet-stream" }, body: content }
+  : { method: "POST", headers: { "Content-Type": "application/json" }, body: JSON.stringify(content) });

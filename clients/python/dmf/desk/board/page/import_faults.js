@@ -1,0 +1,38 @@
+/**
+ * What cannot be read: in words, with its place.
+ * @typedef {import("./import_state.js").View} View
+ * @typedef {import("./import_state.js").Fault} Fault
+ */
+import { at, make, replaceAlike } from "./elements.js";
+import { grouped, sentence } from "./words.js";
+
+/**
+ * Returns a fault with its line and its column in words, as far as it has them.
+ * @param {Fault} fault
+ * @param {View} view
+ */
+export function placed({ text, line, column }, { columns }) {
+  if (!line || /^lines? [0-9]/.test(text)) return text;
+  const title = column && (columns.find((it) => it.at === column - 1)?.title || String(column));
+  return `line ${line}${title ? `, column '${title}'` : ""}: ${text}`;
+}
+
+/**
+ * Returns the settings that the faults name as something that settles them.
+ * @param {View} view
+ */
+export function remedies({ faults, settings }) {
+  const isNamed = (/** @type {string} */ option) => faults.some(({ text }) => text.includes(`--${option.replaceAll("_", "-")} `));
+  return settings.filter(({ option }) => isNamed(option));
+}
+
+/** @param {number} index */
+export const idOf = (index) => `fault-${index}`;
+
+/** @param {View} view */
+export function showFaults(view) {
+  const { faults, more_faults: rest } = view;
+  at("faults").hidden = !faults.length;
+  replaceAlike(at("fault-list"), faults.map((fault, index) => make("li", sentence(placed(fault, view)), { id: idOf(index) })));
+  at("more-faults").textContent = rest ? `and ${grouped(rest)} more` : "";
+}
