@@ -11,6 +11,7 @@ from pathlib import Path
 from random import Random
 from typing import Any
 
+import dmf
 import networkx
 import pytest
 from board_pages import Page
@@ -141,6 +142,10 @@ def test_project(tmp_path: Path) -> None:
     assert desk.steps[-1].text == "Main carries 4 to B, 1.5 to C"
     assert str(desk.value) == "3.5"
     desk.end()
+    with dmf.open_project(file.path) as project:
+        assert (project.cap("Main", 3, "+0.5"), project.cap("Main", "+1")) == (4, 5)
+        with pytest.raises(dmf.ProjectFault, match="one, A -> B leads one way only"):
+            project.cap("one", 3, 4)
 
 
 @pytest.mark.parametrize("seed", range(10))
@@ -208,6 +213,22 @@ def test_board() -> None:
     )
     assert do(board, "cap-all", arcs=[2, 3], capacity="+1")["value"] == "5"
     assert both(2) == ("5", "3", "5 to B")
+    assert do(board, "go", step=0)["value"] == "5"
+    # 3 flow from B to C: a change of that way counts, or else one of the other way.
+    for there, back, mark, filters in (
+        ("3", "2", "n", ("capacity < before", "capacity = 2", "changed")),
+        ("9", "3", "w", ("capacity > before", "capacity = 3", "changed")),
+        ("9", "2", "n", ("capacity < before", "capacity < 3", "changed")),
+        ("1", "4", "w", ("capacity > before", "capacity = 4", "changed")),
+    ):
+        do(board, "cap-ways", arc=2, capacity=there, back=back)
+        assert board._looks.marks([2])[0].change == mark
+        for filter in filters:
+            words = {"filter": f"{filter} and Main", "sort": "", "first": "0", "count": "9"}
+            found = json.loads(board.get("numbers", words).body)
+            assert found["numbers"] == [2], (there, back, filter)
+        do(board, "go", step=0)
+    assert board._looks.marks([2])[0].change == "."
     # As a project of an older version may have it.
     desk.step("close one way", [Close(3)])
     assert both(2)[:2] == ("", "")

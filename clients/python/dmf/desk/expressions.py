@@ -116,9 +116,12 @@ def condition(desk: Desk, words: list[str]) -> Condition | None:
     if what not in ("capacity", "flow") or sign not in COMPARED:
         return None
     is_so, bound = COMPARED[sign], amount(text, network.measure)
-    if what == "capacity":
+    if what == "capacity" and not network.pipes.are_two_way:
         return lambda number: is_so(pipe(number).capacity, bound)
     flows = desk.flows()
+    if what == "capacity":
+        # As it is shown: the way that it flows.
+        return lambda number: is_so(pipe(number).room(flows[number - 1]), bound)
     return lambda number: is_so(magnitude(quantity(flows[number - 1])), bound)
 
 

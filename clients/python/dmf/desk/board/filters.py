@@ -125,19 +125,18 @@ class Filters:
     def _since(self, column: str, is_so: Callable[[Quantity, Quantity], bool]) -> Condition | None:
         """Return the condition on a flow or a capacity against that of the beginning, which an arc
         that was added does not have. Return None for another column."""
-        beginning, pipe = self._beginning, self._desk.network.pipes.pipe
+        beginning, flows = self._beginning, self._desk.flows()
         if column == "capacity":
 
             def is_other(number: int) -> bool:
-                before = beginning.capacity(number)
-                return before is not None and is_so(pipe(number).capacity, before)
+                found = beginning.capacities(number, flows[number - 1])
+                return found is not None and is_so(found[1], found[0])
 
             return is_other
         if column != "flow":
             return None
         if not beginning.is_known:
             raise DeskFault("the flows at the beginning are not known here: go back to it once")
-        flows = self._desk.flows()
         return lambda number: is_so(magnitude(flows[number - 1]), magnitude(beginning.flow(number)))
 
 

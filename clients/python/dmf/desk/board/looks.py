@@ -61,6 +61,15 @@ class Beginning:
         """Return the capacity that an arc had, or None if it was added later."""
         return self._desk.network.first_capacity(number)
 
+    def capacities(self, number: int, flow: Quantity) -> tuple[Quantity, Quantity] | None:
+        """Return what a pipe could carry and what it can, or None if it was added later: of one
+        that leads both ways, the way that this flow goes or, if that is as it was, the other."""
+        pipes = self._desk.network.pipes
+        pipe, arcs = pipes.pipe(number), pipes.arcs(number)
+        ways = [(self.capacity(arcs[0]), pipe.room(1)), (self.capacity(arcs[-1]), pipe.room(-1))]
+        found = [(was, now) for was, now in ways[:: -1 if flow < 0 else 1] if was is not None]
+        return next((it for it in found if it[0] != it[1]), found[0]) if found else None
+
 
 class Looks:
     """How the arcs of a desk look."""
@@ -94,7 +103,7 @@ class Looks:
             )
             use = min(MOST, 10 * flow // capacity) if capacity else 0
             width = round(MOST * math.sqrt(capacity / largest))
-            change = self._change(number, flow, is_known=is_known)
+            change = self._change(number, flows[number - 1], is_known=is_known)
             # One that leads one way points there.
             way = way_sign(pipe, flows[number - 1]) or THERE
             found.append(Mark(state, str(use), change, str(width), way))
@@ -103,14 +112,15 @@ class Looks:
     def _change(self, number: int, flow: int, *, is_known: bool) -> str:
         """Return the sign of what changed on a pipe."""
         pipe = self._desk.network.pipes.pipe(number)
-        before = self._beginning.capacity(number)
         if pipe.is_closed:
             return SHUT
-        if before is None:
+        capacities = self._beginning.capacities(number, flow)
+        if capacities is None:
             return ADDED
-        if pipe.capacity != before:
-            return WIDER if pipe.capacity > before else NARROWER
+        before, now = capacities
+        if now != before:
+            return WIDER if now > before else NARROWER
         if not is_known:
             return UNKNOWN
-        flowed = abs(self._beginning.flow(number))
-        return MORE if flow > flowed else LESS if flow < flowed else SAME
+        by = abs(flow) - abs(self._beginning.flow(number))
+        return MORE if by > 0 else LESS if by < 0 else SAME

@@ -82,8 +82,8 @@ class OpenProject(ProjectAnswers):
         with refusing():
             return self._desk.open(self._desk.network.the_arc(arc, is_closed=True)).value
 
-    def cap(self, arc: str, capacity: Amount) -> Quantity:
-        """Give an arc another capacity.
+    def cap(self, arc: str, capacity: Amount, back: Amount | None = None) -> Quantity:
+        """Give an arc another capacity. One that leads both ways gets it each way.
 
         Parameters
         ----------
@@ -91,6 +91,8 @@ class OpenProject(ProjectAnswers):
             An open arc.
         capacity
             The new capacity, or a change of the present one such as `"+10 %"`.
+        back
+            The capacity from its second place to its first, if that is another one.
 
         Returns
         -------
@@ -103,10 +105,11 @@ class OpenProject(ProjectAnswers):
         Decimal('2.5')
         """
         with refusing():
-            network = self._desk.network
+            network, number = self._desk.network, self._desk.network.the_arc(arc)
+            arcs = network.open_arcs(number) if back is None else network.both_arcs(number)
             wanted = {
-                number: self._amount(capacity, network.lines[number - 1].capacity)
-                for number in network.open_arcs(network.the_arc(arc))
+                one: self._amount(amount, network.lines[one - 1].capacity)
+                for one, amount in zip(arcs, (capacity, capacity if back is None else back))
             }
             return self._desk.cap_each(wanted).value
 
