@@ -7,7 +7,7 @@ from typing import Any
 import pytest
 from board_pages import Page
 from board_running import board
-from desk_shared import PIPES, stop_session, wait_until_asked, without
+from desk_shared import PIPES, Pipe, greatest, stop_session, wait_until_asked, water, without
 from tunnels import tunnel
 
 pytestmark = pytest.mark.seconds(20)
@@ -193,6 +193,42 @@ def test_long(driver: Any) -> None:
         assert (page.value(), stop.is_displayed(), it.state()["at"]) == (155, False, 1)
         assert page.after(lambda: page.press("Shut it")) < 155
         assert page.text("#trouble") == ""
+        driver.get("about:blank")
+
+
+def test_new_place(driver: Any) -> None:
+    """A name that no place has makes a place only if its box is ticked. Those near it are offered,
+    and another name takes the box away."""
+    with board(PIPES) as it:
+        page = Page(driver, it.address)
+
+        def boxes() -> list[Any]:
+            return list(driver.find_elements("css selector", "#is-new"))
+
+        page.choose("node-5", "Mill")
+        page.write("#new-head", "Statoin")
+        page.wait(boxes)
+        assert "No place is called “Statoin”. Is it" in page.text("#new-place")
+        page.press("Station")
+        assert page.driver.find_element("id", "new-head").get_attribute("value") == "Station"
+        assert not boxes()
+        page.write("#new-capacity", "50")
+        page.write("#new-head", "New Town")
+        page.press("Add it")
+        page.wait(lambda: page.text("#trouble") == "No place is called 'New Town'.")
+        assert it.state()["at"] == 0
+        page.wait(boxes)
+        page.click("#is-new")
+        page.after(lambda: page.press("Add it"))
+        assert (it.state()["at"], it.state()["places"]) == (1, 10)
+        page.choose("node-10", "New Town")
+        page.write("#new-head", "Harbour")
+        page.write("#new-capacity", "30")
+        pipes = [Pipe("Mill", "New Town", 50, ""), Pipe("New Town", "Harbour", 30, "")]
+        assert page.after(lambda: page.press("Add it")) == greatest([*water(), *pipes])
+        assert page.undo() == 165
+        assert page.undo() == 165
+        page.wait(lambda: not driver.find_elements("id", "node-10"))
         driver.get("about:blank")
 
 

@@ -49,6 +49,8 @@ class Spot(NamedTuple):
     y: float
 
 
+# A line between the middles of two places.
+Line = tuple[Spot, Spot]
 # The position of a place in a drawing of Graphviz.
 _DRAWN = re.compile(
     r'<g id="node(?:-|&#45;)(\d+)".*?<ellipse [^>]* cx="([-0-9.]+)" cy="([-0-9.]+)"', re.DOTALL
@@ -126,6 +128,21 @@ class Places:
         for node, spot in rough.items():
             self.spots[node] = taken.free(spot)
 
+    def put_beside(self, node: int, others: Sequence[Spot], lines: Iterable[Line]) -> None:
+        """Put a place beside others, to the right of them and a little below, where no other place
+        lies and, if there is such a spot, none of these lines."""
+        x, y = (sum(spot[axis] for spot in others) / len(others) for axis in (0, 1))
+        points = [point for line in lines for point in _points(*line)]
+        self.spots[node] = _FreeSpots(self.spots.values()).free(Spot(x + WIDE, y - HIGH), points)
+
+
+def _points(begin: Spot, end: Spot) -> Iterator[Spot]:
+    """Yield points on a line, half the height of a place apart."""
+    count = int(math.dist(begin, end) / (HIGH / 2)) + 1
+    for at in range(count + 1):
+        by = at / count
+        yield Spot(begin.x + by * (end.x - begin.x), begin.y + by * (end.y - begin.y))
+
 
 class _FreeSpots:
     """The spots that places cover, by the fields of a grid."""
@@ -138,9 +155,12 @@ class _FreeSpots:
     def _take(self, spot: Spot) -> None:
         self._fields.setdefault((int(spot.x // WIDE), int(spot.y // HIGH)), []).append(spot)
 
-    def free(self, wanted: Spot) -> Spot:
-        """Take and return the nearest spot found at which a place overlaps no other."""
-        spot = next((spot for spot in _around(wanted) if self._is_free(spot)), wanted)
+    def free(self, wanted: Spot, points: Sequence[Spot] = ()) -> Spot:
+        """Take and return the nearest spot found at which a place overlaps no other and, if there
+        is one, none of these points."""
+        spots = [spot for spot in _around(wanted) if self._is_free(spot)]
+        clear = (spot for spot in spots if not any(_covers(spot, it) for it in points))
+        spot = next(clear, spots[0] if spots else wanted)
         self._take(spot)
         return spot
 
@@ -153,6 +173,11 @@ class _FreeSpots:
             for one in self._fields.get((column + x, row + y), ())
         )
         return all(abs(one.x - spot.x) >= WIDE or abs(one.y - spot.y) >= HIGH for one in near)
+
+
+def _covers(spot: Spot, point: Spot) -> bool:
+    """Return True if a place at a spot covers a point."""
+    return abs(spot.x - point.x) < WIDE / 2 and abs(spot.y - point.y) < HIGH / 2
 
 
 def _around(spot: Spot) -> Iterator[Spot]:

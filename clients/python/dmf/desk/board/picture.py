@@ -13,7 +13,7 @@ from xml.etree import ElementTree
 from ...quantity import POINT, magnitude, plain_text
 from ...text.drawing import CUT, SIDE, UNUSED, drawn_line, quoted
 from ...text.table_comments import AT_PLACE
-from ..export import LEGEND, said_of
+from ..export import LEGEND, MOST_DRAWN, said_of
 from ..pipes import TwoWayPipe
 from ..steps import DeskArc
 from ..workspace import Desk
@@ -108,11 +108,26 @@ class Picture:
     def svg(self, nodes: tuple[int, ...], arcs: list[int], *, to_take: bool = False) -> str:
         """Return the picture of these arcs, and of these nodes even if they have no arc. With
         `to_take`, for a file of its own, it contains its style. Raises `NoPicture`."""
-        self.places.call(self._desk.network.names.made)
+        self._put_made()
         shape = self._shape_of(arcs, nodes)
         root = self.laid_out(shape)
         self._fill(root, shape)
         return written(root, STYLE, caption(self._desk, LEGEND)) if to_take else written(root)
+
+    def _put_made(self) -> None:
+        """Put each place that was made, and has no spot yet, beside its neighbours."""
+        network, spots = self._desk.network, self.places.spots
+        made = network.names.made
+        self.places.call(made)
+        if made.keys() <= spots.keys():
+            return
+        ends = [self._ends(line) for line in network.lines[network.first_count :]]
+        every = [self._ends(network.lines[it - 1]) for it in network.pictured()[:MOST_DRAWN]]
+        lines = [(spots[one], spots[two]) for one, two in every if {one, two} <= spots.keys()]
+        for node in sorted(made.keys() - spots.keys()):
+            others = {it for pair in ends if node in pair for it in pair} & spots.keys()
+            if others:
+                self.places.put_beside(node, [spots[it] for it in others], lines)
 
     def laid_out(self, shape: Shape) -> ElementTree.Element:
         """Return the layout of a shape, without numbers. Raises `NoPicture`."""

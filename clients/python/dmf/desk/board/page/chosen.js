@@ -4,6 +4,7 @@
  * @typedef {import("./state.js").Place} Place
  * @typedef {import("./elements.js").Piece} Piece
  */
+import { adding } from "./adding.js";
 import { choose, theChoice } from "./choice.js";
 import { at, button, form, make, replace } from "./elements.js";
 import { isPart, showNear } from "./picture.js";
@@ -105,17 +106,4 @@ function aboutPlace(place) {
   if (place.open) about.push(button("Shut it", () => act({ what: "shut", node: place.node }, `${place.name} is shut`)));
   if (isPart()) about.push(button("Show what is near it", () => showNear(place.node), "plain"));
   return [...about, adding(place)];
-}
-
-/**
- * Returns the form that adds an arc from a place.
- * @param {Place} place
- */
-function adding(place) {
-  const typed = (/** @type {string} */ id) => make("input", [], { id, "data-of": `${id} ${place.node}`, autocomplete: "off" });
-  const head = typed("new-head"), room = typed("new-capacity"), name = typed("new-name");
-  head.setAttribute("list", "places");
-  return form([make("p", `A new ${noun()} from here:`), make("label", ["leads to ", head]), make("label", [`carries${units()} `, room]),
-    make("label", ["name (may be left out) ", name])], "Add it",
-  () => act({ what: "add", tail: place.node, head: head.value, capacity: room.value, name: name.value }, `a new ${noun()}`));
 }

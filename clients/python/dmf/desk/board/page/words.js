@@ -6,6 +6,9 @@ export const upper = (text) => text.charAt(0).toUpperCase() + text.slice(1);
 /** @param {string} text */
 export const sentence = (text) => upper(text) + (/[.?!]$/.test(text) ? "" : ".");
 
+/** @param {string} name */
+export const quoted = (name) => `“${name}”`;
+
 /** @param {number} count */
 export const grouped = (count) => count.toLocaleString("en");
 
