@@ -155,6 +155,9 @@ def test_ends(tmp_path: Path) -> None:
         question = it.told("import")["question"]
         assert (question["option"], question["choices"]) == ("source", [["Res", ""], ["Mill", ""]])
         assert said(it, source=["Res", "Mill=5"])["answer"]["said"].startswith("55 can be sent")
+        assert said(it, source=["Res"], both_ways=True)["question"]["choices"] == [
+            [place, ""] for place in ("A", "Mill", "Town")
+        ]
         view = said(it, source=["Rs"])
         assert [(it["line"], "'Rs'" in it["text"]) for it in view["faults"]] == [(0, True)]
         assert view["places"] == ["Res", "A", "Mill", "Town"]
@@ -200,6 +203,45 @@ def test_sheets(tmp_path: Path) -> None:
         assert view["answer"]["said"] == "7 can be sent from Res to Town"
         assert view["command"] == "dmf board 'net.xlsx#South'"
         assert "encoding" not in [setting["option"] for setting in view["settings"]]
+
+
+# A pipe of 200 mm, through which 1.5 * 3.141593 / 4 * 2^2 * 10 = 47.124 litres flow in a second at
+# 1.5 m/s, and a tank beside it, through a pipe half as wide, which gives a quarter: 11.781.
+WATER = """[JUNCTIONS]
+ Town 4 80
+[RESERVOIRS]
+ Lake 60
+[TANKS]
+ Tower 50 2 0 5 10 0
+[PIPES]
+ P1 Lake Town 1200 200 100 0 Open
+ P2 Tower Town 1200 100 100 0 Open
+[OPTIONS]
+ Units LPS
+[END]
+"""
+
+
+def test_velocity(tmp_path: Path) -> None:
+    """A network of EPANET leaves two settings open: they are asked one after the other."""
+    with importing(tmp_path, WATER, name="net.inp") as it:
+        view = it.told("import")
+        assert (view["file"]["kind"], view["preview"]["rows"]) == ("a network of EPANET", [])
+        assert (view["question"]["option"], view["question"]["choices"][0][0]) == (
+            "velocity",
+            "1.5",
+        )
+        question = said(it, velocity="1.5")["question"]
+        assert (question["option"], [word for word, _ in question["choices"]]) == (
+            "tanks",
+            ["source", "none"],
+        )
+        for tanks, value in ("none", "47.124"), ("source", "58.905"):
+            view = said(it, velocity="1.5", tanks=tanks)
+            assert view["answer"]["said"].startswith(f"{value} "), view["answer"]
+        shown = [setting["option"] for setting in view["settings"]]
+        assert {"velocity", "tanks"} <= {*shown} and "tolerance" not in shown
+        assert "--velocity 1.5 --tanks source" in view["command"]
 
 
 def test_problem(tmp_path: Path) -> None:
@@ -248,6 +290,7 @@ def test_upload(tmp_path: Path) -> None:
             status, view = sent(it, name, PLAIN.encode())
             assert (status, view["options"]) == (200, nothing_said())
             assert (view["file"]["name"], view["file"]["folder"]) == (name, str(tmp_path))
+            assert "encoding" in [setting["option"] for setting in view["settings"]]
             assert view["answer"]["said"] == "40 can be sent from Res to Town"
         assert (tmp_path / name).read_bytes() == PLAIN.encode()
         status, told = sent(it, name, b"other")

@@ -24,7 +24,8 @@ from ..workspace import Desk
 from .import_options import SHEET
 from .responses import Json
 
-MOST_PLACES = 2_000
+# How many places a page may propose, and how many answers to a question.
+MOST_PLACES, MOST_CHOICES = 2_000, 50
 ROLES = [
     *[(column, {"tail": "from", "head": "to"}.get(column, column)) for column in COLUMNS],
     ("", "kept as it is"),
@@ -107,7 +108,8 @@ def settings_view(reading: Reading, shown: Preview) -> list[Json]:
         return []
     sign = stages.table.amounts.sign if stages.table else ""
     found = f"as found: a {NAMES[sign]}" if sign else "as found"
-    sheets = [sheet.name for sheet in stages.sheets if "#" in sheet.path]
+    path = split_path(reading.words.path)[0]
+    sheets = [sheet.name for sheet in stages.sheets if sheet.path != path]
     settings: list[tuple[str, str, Sequence[tuple[str, str]]]] = []
     if len(sheets) > 1:
         chosen = f"as found: {stages.sheet.name}" if stages.sheet else "not said"
@@ -147,7 +149,7 @@ def question_view(fault: Optional[BaseException]) -> Optional[Json]:
     return {
         "text": fault.reason.partition("; ")[0],
         "option": fault.option,
-        "choices": [*fault.answers],
+        "choices": [*fault.answers[:MOST_CHOICES]],
     }
 
 
