@@ -17,6 +17,7 @@ import pytest
 from board_pages import Page
 from board_running import board as running
 from desk_shared import run
+from dmf.desk.analysis import _widened, cheapest, prices
 from dmf.desk.board.routes import Board
 from dmf.desk.project.opener import project_desk
 from dmf.desk.project.scenarios import project_of
@@ -184,6 +185,18 @@ def test_many(tmp_path: Path) -> None:
         "1 changed: value 4; more can be sent: solve",
         "  #2 Main, C <-> B: 2 of 3 to C; 6 to B",
     ]
+
+
+def test_costs(tmp_path: Path) -> None:
+    """One unit more from B to C is bought for 1, and no way of Main carries less for that."""
+    text = "from,to,capacity,name,direction,cost\nA,B,5,one,->,\nC,B,3,Main,<->,1\nC,D,7,out,<->,\n"
+    lines = told(tmp_path, "cap Main 9 back 2\nsolve\ncost to 3\n", text)
+    assert lines[-1] == "  1: 3 (Main 1 wider: 1)"
+    desk = desk_of(text)
+    desk.cap_each({2: 9, 3: 2})
+    assert _widened(desk, 2, 3) == {2: 9, 3: 3}
+    assert [it.value for it in cheapest(desk, prices(desk), 3).bought] == [3]
+    desk.end()
 
 
 def do(board: Board, what: str, **content: Any) -> Any:
