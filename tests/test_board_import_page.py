@@ -46,6 +46,19 @@ for (const [list, value] of arguments[0]) {
   list.dispatchEvent(new Event("change", { bubbles: true }));
 }
 """
+# Makes requests wait until they are let go, and notes the capacity that each one asks for.
+SLOW = """
+const { fetch } = window;
+window.asked = [];
+const released = new Promise((resolve) => { window.release = resolve; });
+window.fetch = async (path, ...rest) => {
+  if (path === "import" && rest[0]?.body) {
+    window.asked.push(JSON.parse(rest[0].body).options.capacity);
+    await released;
+  }
+  return fetch(path, ...rest);
+};
+"""
 SMALL = """
 const isSeen = (it) => it.checkVisibility() && !it.closest(".unseen, datalist, option");
 return [...document.querySelectorAll("body *")]
@@ -193,6 +206,26 @@ def test_menu_changed(driver: Any, valley: Path) -> None:
         assert page.selected(role_of("Start node")) == "to"
 
 
+def test_requests_in_turn(driver: Any, valley: Path) -> None:
+    """A change waits for the request before it, and what is chosen meanwhile goes as one."""
+    with board("valley.csv", "--import", cwd=valley.parent) as it:
+        page = ImportPage(driver, it.address)
+        lists = [page.named("combobox", role_of(it)) for it in (TODAY, LATER)]
+        driver.execute_script(SLOW)
+        driver.execute_script(CHOOSE_TWO, [[lists[0], "capacity"]])
+        page.wait(lambda: driver.execute_script("return asked.length === 1"))
+        for choice in [lists[1], "capacity"], [lists[0], "capacity"], [lists[1], "capacity"]:
+            driver.execute_script(CHOOSE_TWO, [choice])
+        assert driver.execute_script("return asked") == [TODAY]
+        driver.execute_script("release()")
+        page.says("70 m³/h")
+        assert driver.execute_script("return asked") == [TODAY, LATER]
+        assert (page.selected(role_of(TODAY)), page.selected(role_of(LATER))) == (
+            "kept as it is",
+            "capacity",
+        )
+
+
 def test_fault_in_cell(driver: Any, valley: Path) -> None:
     """A cell that cannot be read is marked, and told beneath; a setting says what it is, and a
     button of the headline sets it."""
@@ -336,6 +369,7 @@ def test_lost(driver: Any, valley: Path) -> None:
         assert not page.named("combobox", role_of(TODAY)).is_enabled()
 
 
+@pytest.mark.seconds(30)
 def test_names_and_colours(driver: Any, valley: Path) -> None:
     """At each width, light and dark: nothing is wider than the page, all that can be acted on has a
     name, no colour is below AA, and no text is smaller than 11 pixels."""
