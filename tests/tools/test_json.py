@@ -147,6 +147,22 @@ def test_each_line(folder: Path) -> None:
         ), it
 
 
+def test_demands(folder: Path) -> None:
+    """What each shop gets of what it orders if the East Depot is shut: 126 pallets in all, as the
+    story's page reckons them."""
+    words = ["--sources", f"{folder}/stock.csv", "--sinks", f"{folder}/orders.csv", "--json"]
+    typed = 'shut "East Depot"\nsolve\nplaces\n'
+    *_, found = events(run("dmf-plan", f"{folder}/routes.csv", *words, typed=typed).stdout)
+    rows = (line.split(",") for line in (folder / "orders.csv").read_text().splitlines()[1:])
+    orders = {name: int(pallets) for name, pallets in rows}
+    got = {it["place"]: it["flow"]["raw"] for it in found["demands"]}
+    assert {it["place"]: it["demand"]["raw"] for it in found["demands"]} == orders
+    assert sum(got.values()) == 126
+    assert {name: orders[name] - got[name] for name in orders} == {
+        it["place"]: it["short"]["raw"] for it in found["demands"]
+    }
+
+
 def test_the_water_story(folder: Path) -> None:
     """Values of the story; the limit; what each pipe means."""
     told = events(

@@ -46,6 +46,10 @@ class Output:
         """Write what flows on these arcs, and which of them are of the limit."""
         raise NotImplementedError
 
+    def places(self, desk: Desk) -> None:
+        """Write what comes into each place and what goes out, and which demands are short."""
+        raise NotImplementedError
+
     def steps(self, desk: Desk) -> None:
         """Write the steps that were made, and those that were undone."""
         raise NotImplementedError

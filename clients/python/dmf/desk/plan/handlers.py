@@ -29,7 +29,7 @@ from .arguments import (
 )
 from .context import Context
 from .grammar import CHANGES, COMMANDS, count_of, no_words, one_name
-from .output import TextOutput, costs_told, place_lines
+from .output import TextOutput, costs_told
 from .project_handlers import PROJECT_HANDLERS
 
 # From this many arcs on, the progress of a sweep is shown.
@@ -160,7 +160,7 @@ def _from(context: Context, words: list[str]) -> None:
 
 def _places(context: Context, words: list[str]) -> None:
     no_words(words, "places")
-    context.output.tell(*place_lines(context.desk))
+    context.output.places(context.desk)
 
 
 def _worst(context: Context, words: list[str]) -> None:

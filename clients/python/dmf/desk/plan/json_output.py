@@ -4,6 +4,8 @@ from __future__ import annotations
 
 from ...quantity import Quantity, plain_text
 from ...text.events import Json, ends, event_line, event_number
+from ...text.table_comments import DEMAND
+from ..demands import limited_amounts
 from ..pipes import TwoWayPipe
 from ..project.comparison import ArcState, Comparison, Standing
 from ..project.scenarios import Scenarios
@@ -11,6 +13,7 @@ from ..steps import Trial
 from ..workspace import Desk
 from ..worth import Loss
 from .context import Output
+from .output import place_lines
 
 
 class JsonOutput(Output):
@@ -33,6 +36,19 @@ class JsonOutput(Output):
 
     def flows(self, desk: Desk, numbers: list[int], *, with_limit: bool) -> None:
         self._write("flow", {**_state(desk), "arcs": _arcs(desk, numbers)})
+
+    def places(self, desk: Desk) -> None:
+        node = desk.network.names.node
+        demands = [
+            {
+                "place": node(place),
+                "flow": _number(desk, it.flow),
+                "demand": _number(desk, it.limit),
+                "short": _number(desk, it.short),
+            }
+            for place, it in limited_amounts(desk, DEMAND).items()
+        ]
+        self._write("text", {"lines": place_lines(desk), "demands": demands})
 
     def steps(self, desk: Desk) -> None:
         at = desk.at

@@ -38,6 +38,9 @@ class TextOutput(Output):
     def flows(self, desk: Desk, numbers: list[int], *, with_limit: bool) -> None:
         self.tell(*arc_lines(desk, numbers, with_limit=with_limit))
 
+    def places(self, desk: Desk) -> None:
+        self.tell(*place_lines(desk))
+
     def steps(self, desk: Desk) -> None:
         self.tell(*_step_lines(desk))
 
