@@ -369,6 +369,20 @@ def test_lost(driver: Any, valley: Path) -> None:
         assert not page.named("combobox", role_of(TODAY)).is_enabled()
 
 
+def test_found_again(driver: Any, valley: Path) -> None:
+    """What was chosen while the connection was broken is sent once the board is reached again."""
+    with board("valley.csv", "--import", cwd=valley.parent) as it:
+        page = ImportPage(driver, it.address)
+        driver.execute_script("window.kept = fetch; window.fetch = () => Promise.reject(Error())")
+        page.select(role_of(LATER), "capacity")
+        page.wait(lambda: page.text("#trouble").startswith("The board does not answer."))
+        driver.execute_script("window.fetch = window.kept")
+        page.button("Look again").click()
+        page.says("70 m³/h")
+        assert page.text("#trouble") == "" and page.named("button", "Open").is_enabled()
+        assert page.named("combobox", role_of(LATER)).is_enabled()
+
+
 @pytest.mark.seconds(30)
 def test_names_and_colours(driver: Any, valley: Path) -> None:
     """At each width, light and dark: nothing is wider than the page, all that can be acted on has a
