@@ -386,9 +386,10 @@ def test_found_again(driver: Any, valley: Path) -> None:
 @pytest.mark.seconds(30)
 def test_names_and_colours(driver: Any, valley: Path) -> None:
     """At each width, light and dark: nothing is wider than the page, all that can be acted on has a
-    name, no colour is below AA, and no text is smaller than 11 pixels."""
-    valley.write_text(VALLEY.replace("A,Town,25", "A,Town,n/a"))
-    with board("valley.csv", "--import", cwd=valley.parent) as it:
+    name, no colour is below AA, and no text is smaller than 11 pixels; also if names are long."""
+    valley = valley.rename(valley.with_name("v" * 120 + ".csv"))
+    valley.write_text(VALLEY.replace("A,Town,25", "A,Town,n/a").replace("P4", "P" * 150))
+    with board(valley.name, "--import", cwd=valley.parent) as it:
         for width, scheme in itertools.product(WIDTHS, SCHEMES):
             show(driver, width, scheme)
             page = ImportPage(driver, it.address)
