@@ -87,6 +87,8 @@ def test_question(tmp_path: Path) -> None:
         }
         assert view["preview"]["rows"][1] == ["Res", "A", "1200", "50"]
         assert roles(view) == [("tail", "named"), ("head", "named"), ("", ""), ("", "")]
+        page = it.ask(it.root)[2]
+        assert page == it.ask(it.root + "import.html")[2] != it.ask(it.root + "index.html")[2]
         assert asked(it, "open", {})[0] == 409
         assert said(it, capacity="Length (m)")["answer"]["said"] == (
             "900 m can be sent from Res to Town"
@@ -108,7 +110,7 @@ def test_question(tmp_path: Path) -> None:
         for path in "import", "open":
             assert asked(it, path, {})[0] == 404
         assert it.ask(it.root + "import")[0] == sent(it, "t.csv", b"")[0] == 404
-        assert b'id="picture"' in it.ask(it.root)[2]
+        assert it.ask(it.root)[2] == it.ask(it.root + "index.html")[2]
 
 
 def test_titles_below_others(tmp_path: Path) -> None:
