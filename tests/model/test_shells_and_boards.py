@@ -5,6 +5,7 @@ from __future__ import annotations
 
 import json
 from collections.abc import Callable, Iterator
+from itertools import count
 from pathlib import Path
 from random import Random
 from typing import Any
@@ -124,10 +125,10 @@ def test_lockstep(
 
 def projects(folder: Path) -> Iterator[Desk]:
     """Return desks of projects in one state, each in a folder of its own."""
-    while True:
-        folder = folder / "next"
-        folder.mkdir()
-        desk = water_project(folder)
+    for number in count():
+        inside = folder / str(number)
+        inside.mkdir()
+        desk = water_project(inside)
         desk.close(desk.network.the_arc("Bridge pipe"))
         desk.close(desk.network.the_arc("North rise"))
         desk.undo()
@@ -140,7 +141,8 @@ def told(desk: Desk) -> tuple[object, ...]:
     lines = [(it.is_closed, it.capacity) for it in desk.network.lines]
     project = project_of(desk).project
     kept = [(it.name, it.at, [step.text for step in it.steps]) for it in project.scenarios]
-    return steps, desk.at, desk.value, lines, [*desk.cut_arcs()], kept, project.present
+    made = desk.network.names.made
+    return steps, desk.at, desk.value, lines, [*desk.cut_arcs()], made, kept, project.present
 
 
 def typed(line: str) -> Callable[[Desk], object]:
@@ -160,11 +162,16 @@ def asked(**fields: object) -> Callable[[Desk], object]:
 
 BROKEN_OFF = {
     "a line": (typed("close Mill Lane"), KeyboardInterrupt),
+    "a new place of a line": (typed('add Mill --new "New Town" 50'), KeyboardInterrupt),
     "a line that changes nothing": (typed("what-if shut Market"), KeyboardInterrupt),
     "a scenario of a line": (typed("scenario new more"), KeyboardInterrupt),
     "steps of a line": (typed("undo"), KeyboardInterrupt),
     # Requests are answered in threads, where no Ctrl-C comes, but the memory may be full.
     "a request": (asked(what="cap", arc=1, capacity="7.5"), MemoryError),
+    "a new place of a request": (
+        asked(what="add-new", tail=5, head="New Town", capacity="2.5", name=""),
+        MemoryError,
+    ),
     "a scenario of a request": (asked(what="scenario-copy", name="more"), MemoryError),
     "steps of a request": (asked(what="go", step=2), MemoryError),
 }
