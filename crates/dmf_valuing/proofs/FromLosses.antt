@@ -1,43 +1,109 @@
--- From losses to the rows of all arcs.
-use Rattle.std.proofs.Common.{ℕ, ◌≡◌, ◌+◌, ◌-◌, ◌<◌, ◌≤◌, List, length, get_or, pos, subst, ◌∙◌, arith}
+-- From losses to the rows of all parts.
+use Rattle.std.proofs.Common.{ℕ, ◌≡◌, ◌+◌, ◌-◌, ◌<◌, ◌≤◌, List, [], ◌∷◌, ap, arith, filter, get_or, length, pos, subst, sym, ⊎_elim, ◌∙◌}
+use Rattle.std.proofs.lemmas.Bool.{and_parts, cases_eq, eqb-false, not-true}
 use Rattle.std.proofs.lemmas.Int.{ints}
-use Rattle.std.proofs.lemmas.List.{get_or_default}
-use Rattle.std.specs.List.{All}
-use Rattle.dmf_state.specs.Flow.{flow_value}
+use Rattle.std.proofs.lemmas.List.{get_or_default, length-map}
+use Rattle.std.proofs.lemmas.List.Elements.{All-filter, filter_passes}
+use Rattle.std.proofs.lemmas.List.FromFn.{get_or-range_with_len, length-range_with_len}
+use Rattle.std.specs.List.{All, range_with_len}
+use Rattle.dmf_state.specs.Flow.{IsInnerNode, flow_value}
 use Rattle.dmf_state.specs.Network.{Network}
 use Rattle.dmf_solver.specs.Greatest.{IsGreatest}
 use Rattle.dmf_vital.specs.GreatestValue.{IsGreatestValue}
-use Rattle.dmf_vital.specs.Loss.{IsLossOfArc}
-use Rattle.dmf_vital.specs.Without.{without_arc}
+use Rattle.dmf_vital.specs.Loss.{IsLoss, IsLossAt}
+use Rattle.dmf_vital.specs.Without.{without_arc, without_node}
 use Rattle.dmf_vital.proofs.Values.{value-is_greatest}
-use Rattle.dmf_valuing.specs.ArcRows.{arc_rows}
-use Rattle.dmf_valuing.specs.Rows.{AreArcRows}
-use Rattle.dmf_valuing.proofs.ArcRows.{row-at, rows-long}
+use Rattle.dmf_valuing.specs.PartRows.{AreLosses, ArePartRows, part_numbers, part_row, part_rows}
+use Rattle.dmf_valuing.specs.Rows.{inner_nodes, is_inner}
+use Rattle.dmf_valuing.specs.declared.parts.Parts.{Parts}
+use Rattle.dmf_valuing.specs.declared.parts.Parts.TheVariants.{Arcs, Nodes}
+use Rattle.dmf_valuing.proofs.PartRows.{all-kept, row-at}
 
--- The losses of all arcs of a network with a greatest flow of this value.
-module _ (n : Network) (flows : List ℕ) (value : ℕ) (losses : List ℕ) (greatest : IsGreatest n flows) (value_is : pos value ≡ flow_value n flows)
-    (one_each : length losses ≡ length n.arcs) (are : (k : ℕ) → k < length losses → IsLossOfArc n (k + 1) (get_or losses k 0)) where
-  -- What is left without an arc.
-  left : (k : ℕ) (below : k < length losses) → (are k below).1.after + get_or losses k 0 ≡ value
-  left k below =
-      let is = (are k below).1 in
-      let whole = value-is_greatest n flows is.before greatest is.greatest_before in
-      omega (arith, ints, whole, value_is, is.difference)
+-- The number is that of a node.
+abbrev IsNumber : ℕ → ℕ → Type 0
+IsNumber nodes v = (1 ≤ v) × (v ≤ nodes)
+
+all-nodes : (nodes : ℕ) → All (IsNumber nodes) (range_with_len 1 nodes)
+all-nodes nodes k d below =
+    let inside : k < nodes = omega (arith, below, length-range_with_len 1 nodes) in
+    subst (IsNumber nodes) (sym (get_or-range_with_len 1 nodes k d inside)) (omega arith, omega (arith, inside))
+
+-- Each of the inner nodes is one.
+inner-at : (n : Network) (k : ℕ) → k < length (inner_nodes n) → IsInnerNode n (get_or (inner_nodes n) k 0)
+inner-at n k inside =
+    let v = get_or (inner_nodes n) k 0 in
+    let number = All-filter (is_inner n) (IsNumber n.nodes) (range_with_len 1 n.nodes) (all-nodes n.nodes) k 0 inside in
+    let passes = and_parts _ _ (filter_passes (is_inner n) (range_with_len 1 n.nodes) k 0 inside) in
+    record {
+      node = record { from_one = number.0; to_last = number.1 };
+      not_source = eqb-false v n.source (not-true _ passes.0);
+      not_sink = eqb-false v n.sink (not-true _ passes.1);
+    }
+
+-- A network with a greatest flow of this value, and losses.
+module _ (n : Network) (flows : List ℕ) (value : ℕ) (losses : List ℕ) (greatest : IsGreatest n flows) (value_is : pos value ≡ flow_value n flows) where
+  -- What is left where another network has this loss.
+  module _ (m : Network) (loss : ℕ) (is : IsLoss n m loss) where
+    left : is.after + loss ≡ value
+    left =
+        let whole = value-is_greatest n flows is.before greatest is.greatest_before in
+        omega (arith, ints, whole, value_is, is.difference)
+
+    left-is : IsGreatestValue m (value - loss)
+    left-is =
+        let after : is.after ≡ value - loss = omega (arith, left) in
+        subst (IsGreatestValue m) after is.greatest_after
+
+    loss-fits : loss ≤ value
+    loss-fits = omega (arith, left)
+
+  node-fits : (v loss : ℕ) → IsNumber n.nodes v → IsLossAt n v loss → loss ≤ value
+  node-fits v loss number is =
+      ⊎_elim (λ (same : v ≡ n.source). omega (arith, is.source same))
+      (λ other. ⊎_elim (λ (same : v ≡ n.sink). omega (arith, is.sink same))
+      (λ also. loss-fits (without_node n v) loss (is.inner (record { node = record { from_one = number.0; to_last = number.1 }; not_source = other; not_sink = also })).1) (cases_eq v n.sink))
+      (cases_eq v n.source)
 
   -- No loss is larger than the value.
-  pub losses-fit : All (λ loss. loss ≤ value) losses
-  losses-fit k d below = omega (arith, left k below, get_or_default losses k d 0 below)
+  pub losses-fit : (parts : Parts) → AreLosses parts n losses → All (λ loss. loss ≤ value) losses
+  losses-fit Arcs are k d below =
+      omega (arith, loss-fits (without_arc n (k + 1)) (get_or losses k 0) (are.each k below).1, get_or_default losses k d 0 below)
+  losses-fit Nodes are k d below =
+      let number : IsNumber n.nodes (k + 1) = (omega arith, omega (arith, below, are.one_each)) in
+      omega (arith, node-fits (k + 1) (get_or losses k 0) number (are.each k below), get_or_default losses k d 0 below)
 
-  -- The rows are those of all arcs.
-  pub rows-are : AreArcRows n (arc_rows value losses)
-  rows-are = record {
-    one_each = rows-long value losses ∙ one_each;
-    in_order = λ k inside.
-        let below : k < length losses = omega (arith, inside, one_each) in
-        let is = (are k below).1 in
-        let after : is.after ≡ value - get_or losses k 0 = omega (arith, left k below) in (
-          value - get_or losses k 0,
-          subst (IsGreatestValue (without_arc n (k + 1))) after is.greatest_after,
-          row-at value losses k below,
-        );
-  }
+  -- The rows are those of all parts.
+  pub rows-are : (parts : Parts) → AreLosses parts n losses → ArePartRows parts n (part_rows parts n value losses)
+  rows-are Arcs are =
+      let numbers = range_with_len 1 (length losses) in
+      let all : part_numbers Arcs n (length losses) ≡ numbers = all-kept n numbers in
+      let long : length (part_numbers Arcs n (length losses)) ≡ length losses = ap length all ∙ length-range_with_len 1 (length losses) in
+      record {
+        one_each = length-map (part_numbers Arcs n (length losses)) (part_row value losses) ∙ long ∙ are.one_each;
+        in_order = λ k inside.
+            let below : k < length losses = omega (arith, inside, are.one_each) in
+            let number : get_or (part_numbers Arcs n (length losses)) k 0 ≡ k + 1 =
+            ap (λ l. get_or l k 0) all ∙ get_or-range_with_len 1 (length losses) k 0 below ∙ omega arith in
+            let back : k + 1 - 1 ≡ k = omega arith in (
+              value - get_or losses k 0,
+              left-is (without_arc n (k + 1)) (get_or losses k 0) (are.each k below).1,
+              row-at value losses (part_numbers Arcs n (length losses)) k (k + 1) (omega (arith, below, long)) number
+                  ∙ ap (λ i. (k + 1) ∷ (value - get_or losses i 0) ∷ []) back,
+            );
+      }
+  rows-are Nodes are =
+      let same : part_numbers Nodes n (length losses) ≡ inner_nodes n = ap (λ count. filter (is_inner n) (range_with_len 1 count)) are.one_each in
+      record {
+        one_each = length-map (part_numbers Nodes n (length losses)) (part_row value losses) ∙ ap length same;
+        in_order = λ k inside.
+            let v = get_or (inner_nodes n) k 0 in
+            let inner = inner-at n k inside in
+            let below : v - 1 < length losses = omega (arith, inner.node.from_one, inner.node.to_last, are.one_each) in
+            let number : v - 1 + 1 ≡ v = omega (arith, inner.node.from_one) in
+            let loss = get_or losses (v - 1) 0 in
+            let is : IsLossAt n v loss = subst (λ u. IsLossAt n u loss) number (are.each (v - 1) below) in (
+              value - loss,
+              left-is (without_node n v) loss (is.inner inner).1,
+              row-at value losses (part_numbers Nodes n (length losses)) k v (omega (arith, inside, ap length same)) (ap (λ l. get_or l k 0) same),
+            );
+      }

@@ -1,4 +1,3 @@
-pub mod Putting
-pub mod ArcRows
+pub mod PartRows
 pub mod FromLosses
 pub mod OneText

@@ -3,9 +3,17 @@
 use Rattle.std.specs.Prelude.{ℕ, ◌≡◌, List}
 use Rattle.dmf_state.specs.Network.{Network}
 use Rattle.dmf_vital.specs.GreatestValue.{IsGreatestValue}
-use Rattle.dmf_valuing.specs.Rows.{AreArcRows, Row, vital_text}
+use Rattle.dmf_valuing.specs.Rows.{AreArcRows, AreNodeRows, Row, vital_text}
 
--- A greatest value of a network and rows of its arcs have one text, whoever finds them.
+-- A greatest value of a network and rows that are so have one text, whoever finds them.
+abbrev pub HaveOneText : (Network → List Row → Type 0) → Type 0
+HaveOneText AreRows = (n : Network) (value other : ℕ) (rows others : List Row) → IsGreatestValue n value → IsGreatestValue n other → AreRows n rows
+    → AreRows n others → vital_text value rows ≡ vital_text other others
+
+-- rows of its arcs,
 abbrev pub ArcsHaveOneText : Type 0
-ArcsHaveOneText = (n : Network) (value other : ℕ) (rows others : List Row) → IsGreatestValue n value → IsGreatestValue n other → AreArcRows n rows
-    → AreArcRows n others → vital_text value rows ≡ vital_text other others
+ArcsHaveOneText = HaveOneText AreArcRows
+
+-- and rows of its nodes
+abbrev pub NodesHaveOneText : Type 0
+NodesHaveOneText = HaveOneText AreNodeRows

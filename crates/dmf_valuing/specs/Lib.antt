@@ -1,4 +1,4 @@
 pub mod Rows
 pub mod VitalRun
 pub mod Laws
-pub mod ArcRows
+pub mod PartRows

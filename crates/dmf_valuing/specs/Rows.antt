@@ -1,11 +1,13 @@
 -- What is written of a network: its greatest value, and rows of numbers.
 -- Public: a public contract says no more than this.
-use Rattle.std.specs.Prelude.{ℕ, ◌≡◌, ◌+◌, ◌<◌, List, [], ◌∷◌, ◌++◌, codes, decimal, length, map, slice_index_or}
+use Rattle.std.specs.Prelude.{ℕ, ◌≡◌, ◌+◌, ◌<◌, ◌==◌, ◌&&◌, not, Bool, List, [], ◌∷◌, ◌++◌, codes, decimal, filter, length, map}
+use Rattle.std.specs.Prelude.{slice_index, slice_index_or}
+use Rattle.std.specs.List.{range_with_len}
 use Rattle.dmf_state.specs.Network.{Network}
 use Rattle.dmf_text.specs.Judging.{Line}
 use Rattle.dmf_text.specs.Written.{written, written_line}
 use Rattle.dmf_vital.specs.GreatestValue.{IsGreatestValue}
-use Rattle.dmf_vital.specs.Without.{without_arc}
+use Rattle.dmf_vital.specs.Without.{without_arc, without_node}
 
 -- ---- rows of numbers
 
@@ -20,6 +22,23 @@ IsArcRow n j row = (without : ℕ) × IsGreatestValue (without_arc n j) without 
 pub record AreArcRows (n : Network) (rows : List Row) : Type 0 where
   pub one_each : length rows ≡ length n.arcs
   pub in_order : (k : ℕ) → k < length n.arcs → IsArcRow n (k + 1) (slice_index_or rows k [])
+
+-- The row has the number of node `v`, and the value of a greatest flow of the network in which each arc at node `v` is closed.
+abbrev pub IsNodeRow : Network → ℕ → Row → Type 0
+IsNodeRow n v row = (without : ℕ) × IsGreatestValue (without_node n v) without × (row ≡ v ∷ without ∷ [])
+
+-- whether node `v` is neither the source nor the sink
+abbrev pub is_inner : Network → ℕ → Bool
+is_inner n v = not (v == n.source) && not (v == n.sink)
+
+-- the nodes but the source and the sink, in order of number
+abbrev pub inner_nodes : Network → List ℕ
+inner_nodes n = filter (is_inner n) (range_with_len 1 n.nodes)
+
+-- There is a row of each node but the source and the sink, in order of number.
+pub record AreNodeRows (n : Network) (rows : List Row) : Type 0 where
+  pub one_each : length rows ≡ length (inner_nodes n)
+  pub in_order : (k : ℕ) → k < length (inner_nodes n) → IsNodeRow n (slice_index (inner_nodes n) k) (slice_index_or rows k [])
 
 -- ---- what is written
 

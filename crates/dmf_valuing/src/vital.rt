@@ -1,15 +1,16 @@
-//! What is left without each arc, from bytes to bytes.
-ghost use Rattle.dmf_valuing.specs.Laws.{ArcsHaveOneText};
-ghost use Rattle.dmf_valuing.specs.Rows.{AreArcRows};
+//! What is left without each arc, or without each node, from bytes to bytes.
+ghost use Rattle.dmf_valuing.specs.Laws.{ArcsHaveOneText, NodesHaveOneText};
+ghost use Rattle.dmf_valuing.specs.PartRows.{ArePartRows};
+ghost use Rattle.dmf_valuing.specs.Rows.{AreArcRows, AreNodeRows};
 ghost use Rattle.dmf_valuing.specs.VitalRun.{RunsVital};
 
-use crate::laws::arcs_have_one_text;
+use crate::laws::{arcs_have_one_text, nodes_have_one_text};
+use crate::parts::{Parts, losses_of};
 use crate::rows::write_vital;
 use dmf_solver::Watch;
 use dmf_solving::solve_any;
 use dmf_streams::{EngineFault, Status, flush, read_state};
 use dmf_text::{Sink, Source};
-use dmf_vital::arc_losses;
 use std::alloc::Global;
 
 /// Reads a problem, and finds its greatest value and what is left of it without each arc. Writes the value as `c value V`, then for each
@@ -27,10 +28,45 @@ pub fn run_vital<P: Source, W: Sink, V: Watch>(
     ensures one_text { ArcsHaveOneText }
 {
     arcs_have_one_text();
+    run_valuing(alloc, Parts::Arcs, problem, out, watch)
+}
+
+/// Does what [`run_vital`] does, for each node but the source and the sink in place of each arc. WITHOUT is the value of a greatest flow of
+/// the network in which each arc at node J is closed.
+pub fn run_vital_nodes<P: Source, W: Sink, V: Watch>(
+    alloc: Global,
+    problem: &mut P,
+    out: &mut W,
+    watch: &mut V,
+) -> Result<Status, EngineFault>
+    ensures run { RunsVital AreNodeRows (P.left problem.old) (P.left problem.new) (W.written out.old) (W.written out.new) result }
+    ensures one_text { NodesHaveOneText }
+{
+    nodes_have_one_text();
+    run_valuing(alloc, Parts::Nodes, problem, out, watch)
+}
+
+/// Reads a problem, and writes its greatest value and what is left of it without each of these parts.
+#[inline(never)]
+fn run_valuing<P: Source, W: Sink, V: Watch>(
+    alloc: Global,
+    parts: Parts,
+    problem: &mut P,
+    out: &mut W,
+    watch: &mut V,
+) -> Result<Status, EngineFault>
+    ensures { RunsVital (ArePartRows parts) (P.left problem.old) (P.left problem.new) (W.written out.old) (W.written out.new) result }
+{
     let state = read_state(alloc, problem)?;
     let solved = solve_any(alloc, state, false, watch)?;
-    let losses = arc_losses(alloc, &solved.state)?;
-    write_vital(solved.state.value(), losses.as_slice(), out)?;
+    let losses = losses_of(alloc, parts, &solved.state)?;
+    write_vital(
+        solved.state.value(),
+        parts,
+        &solved.state,
+        losses.as_slice(),
+        out,
+    )?;
     flush(out)?;
     Ok(Status::Well)
 }

@@ -13,59 +13,59 @@ use Rattle.dmf_streams.specs.Reading.{HasGiven}
 use Rattle.dmf_streams.proofs.Giving.{given}
 use Rattle.dmf_streams.proofs.ReplyLemmas.{Writes-flushed}
 use Rattle.dmf_vital.specs.GreatestValue.{IsGreatestValue}
-use Rattle.dmf_valuing.specs.ArcRows.{arc_rows}
-use Rattle.dmf_valuing.specs.Rows.{AreArcRows, vital_text}
+use Rattle.dmf_valuing.specs.PartRows.{ArePartRows, part_rows}
+use Rattle.dmf_valuing.specs.Rows.{vital_text}
 use Rattle.dmf_valuing.specs.VitalRun.{WritesVital}
 use Rattle.dmf_valuing.proofs.FromLosses.{losses-fit, rows-are}
-use Rattle.dmf_valuing.proofs.vital.run_vital.Given.{Over}
-use Rattle.dmf_valuing.proofs.vital.run_vital.Goals as goal
-use Rattle.dmf_valuing.proofs.vital.run_vital.Goals.{After-write_vital}
+use Rattle.dmf_valuing.proofs.vital.run_valuing.Given.{Over}
+use Rattle.dmf_valuing.proofs.vital.run_valuing.Goals as goal
+use Rattle.dmf_valuing.proofs.vital.run_valuing.Goals.{After-write_vital}
 
 -- the value and the rows were written, or a prefix of them
 writes-vital : (g : Over) (c : After-write_vital g) (new : Writer) (result : Result Status EngineFault) → Writes (g.W.Sink.written c.args.out.now) new result
-    (vital_text c.value.result (arc_rows c.value.result c.as_slice.result.now))
-    → HasGiven (g.P.Source.left c.args.problem.now) (g.P.Source.left c.read_state.new.source) (λ text. WritesVital AreArcRows
+    (vital_text c.value.result (part_rows c.args.parts c.in_ok-solved.solved.state.network c.value.result c.as_slice.result.now))
+    → HasGiven (g.P.Source.left c.args.problem.now) (g.P.Source.left c.read_state.new.source) (λ text. WritesVital (ArePartRows c.args.parts)
     (g.P.Source.left c.args.problem.now) (g.P.Source.left c.read_state.new.source) (g.W.Sink.written c.args.out.now) new text result)
 writes-vital g c new result writes = given c.in_ok-state.ensures (λ text problem.
     let solved = c.in_ok-solved.solved.state in
     let found = c.in_ok-solved.ensures in
     let losses = c.in_ok-losses.losses.items in
-    let rows = rows-are solved.network solved.flows c.value.result losses found.greatest c.value.ensures.value c.in_ok-losses.ensures.one_each
-    c.in_ok-losses.ensures.losses in
+    let rows = part_rows c.args.parts solved.network c.value.result losses in
+    let are_rows = rows-are solved.network solved.flows c.value.result losses found.greatest c.value.ensures.value c.args.parts c.in_ok-losses.ensures in
     record {
       state = c.in_ok-state.state;
       problem = problem;
       value = c.value.result;
       greatest = subst (λ (n : Network). IsGreatestValue n c.value.result) found.network
           (record { flows = solved.flows; greatest = found.greatest; value_is = sym c.value.ensures.value });
-      rows = arc_rows c.value.result losses;
-      are_rows = subst (λ (n : Network). AreArcRows n (arc_rows c.value.result losses)) found.network rows;
-      writes = subst (λ losses. Writes (g.W.Sink.written c.args.out.now) new result (vital_text c.value.result (arc_rows c.value.result losses)))
+      rows = rows;
+      are_rows = subst (λ (n : Network). ArePartRows c.args.parts n rows) found.network are_rows;
+      writes = subst (λ losses. Writes (g.W.Sink.written c.args.out.now) new result
+          (vital_text c.value.result (part_rows c.args.parts solved.network c.value.result losses)))
           c.as_slice.ensures.value writes;
     })
 
 pub write_vital-requires : goal.write_vital-requires
 write_vital-requires g c =
     let solved = c.in_ok-solved.solved.state in
-    let losses = c.in_ok-losses.losses.items in
-    let fit = losses-fit solved.network solved.flows c.value.result losses c.in_ok-solved.ensures.greatest c.value.ensures.value
-    c.in_ok-losses.ensures.one_each c.in_ok-losses.ensures.losses in
+    let fit = losses-fit solved.network solved.flows c.value.result c.in_ok-losses.losses.items c.in_ok-solved.ensures.greatest c.value.ensures.value
+    c.args.parts c.in_ok-losses.ensures in
     subst (All (λ loss. loss ≤ c.value.result)) (sym c.as_slice.ensures.value) fit
 
-pub returns-in_err-write_vital-clause-run : goal.returns-in_err-write_vital-clause-run
-returns-in_err-write_vital-clause-run g c =
+pub returns-in_err-write_vital : goal.returns-in_err-write_vital
+returns-in_err-write_vital g c =
     let failed = err_from_is_err_and c.from_residual-in_err-write_vital.result c.from_residual-in_err-write_vital.ensures.1 in
     rw (failed.1, failed.2)
-    (writes-vital g (goal.at.returns-in_err-write_vital-clause-run g c).After-write_vital _ (Err Write) c.in_err-write_vital.ensures)
+    (writes-vital g (goal.at.returns-in_err-write_vital g c).After-write_vital _ (Err Write) c.in_err-write_vital.ensures)
 
-pub returns-in_err-flush-clause-run : goal.returns-in_err-flush-clause-run
-returns-in_err-flush-clause-run g c =
+pub returns-in_err-flush : goal.returns-in_err-flush
+returns-in_err-flush g c =
     let failed = err_from_is_err_and c.from_residual-in_err-flush.result c.from_residual-in_err-flush.ensures.1 in
-    rw (failed.1, failed.2) (writes-vital g (goal.at.returns-in_err-flush-clause-run g c).After-write_vital (g.W.Sink.written c.flush.new.out) (Err Write)
+    rw (failed.1, failed.2) (writes-vital g (goal.at.returns-in_err-flush g c).After-write_vital (g.W.Sink.written c.flush.new.out) (Err Write)
     (Writes-flushed {V = Status} _ (g.W.Sink.written c.write_vital.new.out) _ (Err Write) _ c.in_ok-write_vital.ensures c.in_err-flush.ensures))
 
-pub returns-clause-run : goal.returns-clause-run
-returns-clause-run g c =
-    writes-vital g (goal.at.returns-clause-run g c).After-write_vital (g.W.Sink.written c.flush.new.out) (Ok Well)
+pub returns : goal.returns
+returns g c =
+    writes-vital g (goal.at.returns g c).After-write_vital (g.W.Sink.written c.flush.new.out) (Ok Well)
     (Writes-flushed {E = EngineFault} _ (g.W.Sink.written c.write_vital.new.out) (g.W.Sink.written c.flush.new.out) (Ok Well) _
     c.in_ok-write_vital.ensures c.in_ok-flush.ensures)
