@@ -213,6 +213,7 @@ def texts(draw: st.DrawFn, lines: Lines, comment: bytes) -> bytes:
 CUTS = st.sampled_from([(), (b"--cut",)])
 BRIEF = st.sampled_from([(), (), (b"--brief",)])
 ANY = st.sampled_from([(), (b"--any",)])
+NODES = st.sampled_from([(), (b"--nodes",)])
 BOUNDS: st.SearchStrategy[tuple[bytes, ...]] = st.sampled_from(
     [(), (), (b"--history", b"0"), (b"--history", b"1"), (b"--history", b"2")]
 )
@@ -226,9 +227,9 @@ def solves(draw: st.DrawFn) -> Case:
 
 @st.composite
 def values(draw: st.DrawFn) -> Case:
-    """What is left without each arc."""
+    """What is left without each arc, or without each node."""
     text = draw(texts(problem_lines(draw(networks().filter(fits))), b"cx"))
-    return Case("values", (b"vital",), text, text)
+    return Case("values", (b"vital", *draw(NODES)), text, text)
 
 
 @st.composite

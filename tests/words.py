@@ -19,12 +19,12 @@ from worked_forms import CROSSED, CROSSED_FLOW, Worked, text
 USAGE = """Usage: dmf [solve [--any] [--brief] [--cut] [--progress]] <FILE
        dmf session [--brief] [--cut] [--history N] [--progress] PROBLEM
        dmf check PROBLEM <SOLUTION
-       dmf vital [--progress] <FILE
+       dmf vital [--nodes] [--progress] <FILE
 """
 SOLVE = "Usage: dmf solve [--any] [--brief] [--cut] [--progress] <FILE\n"
 SESSION = "Usage: dmf session [--brief] [--cut] [--history N] [--progress] PROBLEM\n"
 CHECK = "Usage: dmf check PROBLEM <SOLUTION\n"
-VITAL = "Usage: dmf vital [--progress] <FILE\n"
+VITAL = "Usage: dmf vital [--nodes] [--progress] <FILE\n"
 # The tools around the program, by their files.
 TOOLS = [
     name
@@ -98,8 +98,16 @@ REFUSED = [
     ("vital --brief", "unexpected argument '--brief' found"),
     ("vital --any", "unexpected argument '--any' found"),
     ("vital --history 1", "unexpected argument '--history' found"),
-    ("vital --nodes", "unexpected argument '--nodes' found"),
+    ("vital --arcs", "unexpected argument '--arcs' found"),
+    ("vital --nodes P", "unexpected argument 'P' found"),
+    ("vital --nodes --cut", "unexpected argument '--cut' found"),
+    ("vital --nodes=2", "unexpected value '2' for '--nodes' found"),
+    ("vital --nodes --nodes", "cannot be used multiple times"),
     ("vital --progress --progress", "cannot be used multiple times"),
+    ("--nodes", "unexpected argument '--nodes' found"),
+    ("solve --nodes", "unexpected argument '--nodes' found"),
+    ("session --nodes P", "unexpected argument '--nodes' found"),
+    ("check --nodes P", "unexpected argument '--nodes' found"),
     ("Vital", "unrecognized subcommand 'Vital'"),
 ]
 # Words with a bound that is refused, each with a part of the text that tells it.
@@ -173,8 +181,10 @@ HELPS: list[tuple[str, tuple[str, ...]]] = [
         "vital --help",
         (
             VITAL,
+            "--nodes     Leave out each node in turn, rather than each arc\n",
             "--progress  Tell on standard error how far it is\n",
             "\n  $ dmf vital <network.max\n  c value 5\n",
+            "\n  $ dmf vital --nodes <network.max\n  c value 5\n  v 2 2\n  v 3 2\n",
         ),
     ),
     ("vital --progress -h", (VITAL,)),
@@ -186,6 +196,7 @@ VERSIONS = [(word, f"dmf {RELEASE}\n") for word in ("--version", "-V")]
 # What may stand after a command; the words of one part stand together.
 PARTS = ("--brief",), ("--cut",), ("--history", "1"), ("--progress",), (PROBLEM.decode(),)
 SOLVE_PARTS = ("--any",), *PARTS
+VITAL_PARTS = ("--nodes",), *PARTS
 # What else may stand after `session`: other ways to write a bound, and paths that look like other
 # words. Of these paths only one has a file.
 SESSION_WORDS = (
@@ -212,7 +223,7 @@ def orders(command: str) -> Iterator[Case]:
     three after the others, which take fewer. And each part twice, with the path after it or
     between; and what else may stand after `session`.
     """
-    parts = SOLVE_PARTS if command == "solve" else PARTS
+    parts = {"solve": SOLVE_PARTS, "vital": VITAL_PARTS}.get(command, PARTS)
     most = {"session": len(PARTS), "solve": 4}.get(command, 3)
     chosen = [order for count in range(most + 1) for order in permutations(parts, count)]
     chosen += [

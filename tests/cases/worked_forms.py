@@ -38,14 +38,15 @@ def checked(name: str, problem: str | bytes, solution: str | bytes, verdict: str
     return Worked(case, Outcome(int("flow" in verdict), text(verdict)))
 
 
-def valued(name: str, problem: str | bytes, written: str) -> Worked:
-    """What is left without each arc of a problem."""
-    return Worked(Case(name, (b"vital",), text(problem), text(problem)), Outcome(0, text(written)))
+def valued(name: str, problem: str | bytes, written: str, *flags: bytes) -> Worked:
+    """What is left without each arc of a problem, or each node."""
+    case = Case(name, (b"vital", *flags), text(problem), text(problem))
+    return Worked(case, Outcome(0, text(written)))
 
 
-def faulty(problem: str | bytes, told: str, command: bytes = b"solve") -> Worked:
+def faulty(problem: str | bytes, told: str, command: bytes = b"solve", *flags: bytes) -> Worked:
     """A problem that is refused. Standard input has it too, where it is read."""
-    words = (command,) if command in (b"solve", b"vital") else (command, PROBLEM)
+    words = (command, *flags) if command in (b"solve", b"vital") else (command, PROBLEM)
     return Worked(
         Case(f"a problem: {told}", words, text(problem), text(problem)),
         Outcome(3, b"", f"dmf: {told}\n".encode()),
@@ -59,6 +60,7 @@ def wrong(problem: str | bytes, solution: str | bytes, told: str) -> Worked:
 
 
 CUT = b"--cut"
+NODES = b"--nodes"
 BRIEF = b"--brief"
 # Four nodes: two ways from the source to the sink, and an arc from the one to the other.
 CROSSED = "p max 4 5 / n 1 s / n 4 t / a 1 2 3 / a 1 3 2 / a 2 3 5 / a 2 4 2 / a 3 4 3"

@@ -8,7 +8,7 @@ from dataclasses import replace
 from pathlib import Path
 from typing import NamedTuple, Protocol
 
-from .network import State, is_greatest, solved
+from .network import Arc, State, is_greatest, solved
 from .problem import read_problem
 from .session import MOST_KEPT, MOST_LINES, Refusals, SolveReply, cut_of, run_lines
 from .solution import read_solution, solution_text
@@ -77,13 +77,14 @@ class Outcome(NamedTuple):
 
 class Asked(NamedTuple):
     """What words ask for: a command, what is wanted of a solve's reply, the bound of the history,
-    the path where one is, and whether any greatest flow will do."""
+    the path where one is, whether any greatest flow will do, and whether nodes are valued."""
 
     command: str
     wanted: SolveReply
     bound: int
     path: str = ""
     is_any: bool = False
+    of_nodes: bool = False
 
 
 class Ended(Exception):
@@ -111,7 +112,7 @@ FLAGS: dict[str, tuple[str, ...]] = {
     "solve": ("--any", "--brief", "--cut", "--progress"),
     "session": ("--brief", "--cut", "--progress"),
     "check": (),
-    "vital": ("--progress",),
+    "vital": ("--nodes", "--progress"),
 }
 
 
@@ -143,18 +144,25 @@ def solve(problem: bytes, wanted: SolveReply, is_any: bool) -> Outcome:
     return Outcome(WELL, AnySolution(state, cut) if is_any else solution_text(state) + cut)
 
 
-def value_without(state: State, j: int) -> int:
-    """The value of a greatest flow of the network in which this arc can carry nothing, by a solve
+def value_without(state: State, closed: Callable[[int, Arc], bool]) -> int:
+    """The value of a greatest flow of the network in which these arcs can carry nothing, by a solve
     of its own."""
     arcs = tuple(
-        arc._replace(cap=0) if number == j else arc for number, arc in enumerate(state.arcs, 1)
+        arc._replace(cap=0) if closed(number, arc) else arc
+        for number, arc in enumerate(state.arcs, 1)
     )
     return solved(replace(state, arcs=arcs)).value()
 
 
-def vital(problem: bytes) -> Outcome:
+def vital(problem: bytes, of_nodes: bool) -> Outcome:
     state = judged(read_problem, bounded(problem))
-    lines = [written("v", j, value_without(state, j)) for j in range(1, len(state.arcs) + 1)]
+    if of_nodes:
+        inner = sorted(set(range(1, state.nodes + 1)) - {state.source, state.sink})
+        values = [(v, value_without(state, lambda _, arc: v in arc[:2])) for v in inner]
+    else:
+        numbers = range(1, len(state.arcs) + 1)
+        values = [(j, value_without(state, lambda number, _: number == j)) for j in numbers]
+    lines = [written("v", number, value) for number, value in values]
     return Outcome(WELL, written("c", "value", solved(state).value()) + b"".join(lines))
 
 
@@ -261,7 +269,12 @@ def asked_of(command: str, words: list[str]) -> Asked | Outcome:
         return REFUSED_WORDS
     wanted = SolveReply(cut="--cut" in flags, brief="--brief" in flags)
     return Asked(
-        command, wanted, MOST_KEPT if bound is None else bound, "".join(paths), "--any" in flags
+        command,
+        wanted,
+        MOST_KEPT if bound is None else bound,
+        "".join(paths),
+        "--any" in flags,
+        "--nodes" in flags,
     )
 
 
@@ -274,12 +287,12 @@ def run(words: Sequence[bytes], standard_input: bytes, refusals: Refusals | None
     asked_for = asked(texts)
     if isinstance(asked_for, Outcome):
         return asked_for
-    command, wanted, bound, path, is_any = asked_for
+    command, wanted, bound, path, is_any, of_nodes = asked_for
     try:
         if command == "solve":
             return solve(standard_input, wanted, is_any)
         if command == "vital":
-            return vital(standard_input)
+            return vital(standard_input, of_nodes)
         if command == "check":
             return check(read_file(path), standard_input)
         return session(read_file(path), standard_input, wanted, bound, refusals)

@@ -27,9 +27,14 @@ LINE_FEED = 10
 # A solution that is longer than the program's buffer of 1,024 bytes, so that a write fails before
 # the flush, and a session with such replies.
 WIDE = text("p max 2 100 / n 1 s / n 2 t" + " / a 1 2 10000000000000000" * 100)
+# As many nodes in a row, whose values are as long.
+ROWED = text(
+    "p max 200 199 / n 1 s / n 200 t" + "".join(f" / a {v} {v + 1} 9" for v in range(1, 200))
+)
 LONG = [
     Case("a long solution", (b"solve", b"--cut"), WIDE, WIDE),
     Case("many values", (b"vital",), WIDE, WIDE),
+    Case("many values of nodes", (b"vital", b"--nodes"), ROWED, ROWED),
     Case("long replies", (b"session", PROBLEM), WIDE, text("solve / print problem / print cut")),
 ]
 WORDS = [

@@ -284,6 +284,8 @@ def test_asked_vital(small: Path) -> None:
     assert (asked.returncode, asked.stdout) == (0, b"c value 3\nv 1 0\n")
     assert lines_of(asked.stderr) == ["reading"]
     assert piped(["vital"], small.read_bytes()).stderr == b""
+    nodes = piped(["vital", "--nodes", "--progress"], small.read_bytes())
+    assert (nodes.returncode, lines_of(nodes.stderr)) == (0, ["reading"])
 
 
 def test_asked_session(small: Path) -> None:

@@ -65,6 +65,7 @@ CLOSED: dict[str, tuple[set[int], str, bytes, tuple[int, bytes, bytes]]] = {
     "no input to solve": ({INPUT}, "solve", b"", (4, b"", READ_FAILED)),
     "no input to solve, without words": ({INPUT}, "", b"", (4, b"", READ_FAILED)),
     "no input to value": ({INPUT}, "vital", b"", (4, b"", READ_FAILED)),
+    "no input to value nodes": ({INPUT}, "vital --nodes", b"", (4, b"", READ_FAILED)),
     "no commands": ({INPUT}, "session problem.max", b"", (4, b"", READ_FAILED)),
     "no commands of a session with cuts": (
         {INPUT},
@@ -89,6 +90,7 @@ CLOSED: dict[str, tuple[set[int], str, bytes, tuple[int, bytes, bytes]]] = {
     # What was to be written is told as lost.
     "no output of a solution": ({OUTPUT}, "solve", A, (4, b"", WRITE_FAILED)),
     "no output of values": ({OUTPUT}, "vital", A, (4, b"", WRITE_FAILED)),
+    "no output of values of nodes": ({OUTPUT}, "vital --nodes", A, (4, b"", WRITE_FAILED)),
     "no output of a session": (
         {OUTPUT},
         "session problem.max",
@@ -155,6 +157,7 @@ def test_closed(folder: Path, name: str) -> None:
         ("session problem.max", b"print problem\n"),
         ("", A),
         ("vital", A),
+        ("vital --nodes", A),
         ("check problem.max", NO_FLOW),
         ("--help", b""),
         ("--version", b""),
@@ -251,6 +254,7 @@ SMALL = {
         (0, SOLUTION + CUT),
     ),
     "a solution is checked": ("check examples/a.max", SOLUTION, (0, b"c greatest 5\n")),
+    "each node is valued": ("vital --nodes", A, (0, b"c value 5\nv 2 2\nv 3 2\n")),
     "each arc is valued": ("vital", A, (0, b"c value 5\nv 1 2\nv 2 3\nv 3 4\nv 4 3\nv 5 2\n")),
 }
 

@@ -1,9 +1,10 @@
-"""Compares what `dmf vital` writes with whole solves of the network without each arc, by networkx:
-on random networks, on those of each family of the benchmark, and on the examples. `--long` tries
-100,000 random networks."""
+"""Compares what `dmf vital` writes with whole solves of the network without each arc or each node,
+by networkx: on random networks, on those of each family of the benchmark, and on the examples.
+`--long` tries 100,000 random networks."""
 
 from __future__ import annotations
 
+from collections.abc import Callable
 from contextlib import suppress
 from random import Random
 
@@ -12,7 +13,7 @@ import networkx
 import pytest
 from built import Case
 from conftest import ROOT
-from oracle.network import State
+from oracle.network import Arc, State
 from oracle.problem import read_problem
 from oracle.texts import LineFault
 from program.test_quick_solves import FAMILIES, Generate, generate
@@ -21,49 +22,67 @@ from random_cases import MOST_VALUED, fitting, network, plain_text, problem_line
 # The networks of the families are made by the fixture of the quick solves.
 __all__ = ["generate"]
 FEW, MANY = 200, 100_000
-# Of a larger network so many arcs are left out in turn, evenly apart.
+# Of a larger network so many arcs or nodes are left out in turn, evenly apart.
 ARCS, LEFT_OUT = 1000, 25
 NONE = 0
+NODES = b"--nodes"
+# Says whether an arc of this number is closed without an arc or a node.
+Closed = Callable[[int, int, Arc], bool]
 
 
-def value_without(state: State, left_out: int) -> int:
-    """The greatest value without this arc, by networkx."""
+def is_arc(left_out: int, number: int, arc: Arc) -> bool:
+    return number == left_out
+
+
+def is_at_node(left_out: int, number: int, arc: Arc) -> bool:
+    return left_out in (arc.tail, arc.head)
+
+
+def value_without(state: State, left_out: int, is_closed: Closed = is_arc) -> int:
+    """The greatest value without this arc or node, by networkx."""
     graph = networkx.DiGraph()
     graph.add_nodes_from(range(1, state.nodes + 1))
     for number, arc in enumerate(state.arcs, 1):
-        if number != left_out and arc.tail != arc.head:
+        if not is_closed(left_out, number, arc) and arc.tail != arc.head:
             before = graph.get_edge_data(arc.tail, arc.head, {"capacity": 0})["capacity"]
             graph.add_edge(arc.tail, arc.head, capacity=before + arc.cap)
     value: int = networkx.maximum_flow_value(graph, state.source, state.sink)
     return value
 
 
-def vital(problem: bytes) -> list[bytes]:
+def vital(problem: bytes, *flags: bytes) -> list[bytes]:
     """The lines that are written of a problem."""
-    ran = built.run(Case("values", (b"vital",), problem, problem))
+    ran = built.run(Case("values", (b"vital", *flags), problem, problem))
     assert (ran.status, ran.err) == (0, b""), ran
     return ran.out.splitlines()
 
 
-def judge(problem: bytes, step: int = 1) -> None:
-    """Compares the value, and what is left without each arc, or without one of so many. All have a
-    line, in order."""
+def judge_rows(problem: bytes, flags: list[bytes], numbers: list[int], is_closed: Closed) -> None:
+    """Compares the value, and what is left without each of these arcs or nodes, or without one of
+    so many. All have a line, in order."""
     state = read_problem(problem)
-    first, *rows = vital(problem)
+    first, *rows = vital(problem, *flags)
     assert first == b"c value %d" % value_without(state, NONE)
-    assert [row.split()[:2] for row in rows] == [
-        [b"v", b"%d" % number] for number in range(1, len(state.arcs) + 1)
-    ]
-    chosen = range(step, len(state.arcs) + 1, step)
-    assert {number: int(rows[number - 1].split()[2]) for number in chosen} == {
-        number: value_without(state, number) for number in chosen
+    assert [row.split()[:2] for row in rows] == [[b"v", b"%d" % number] for number in numbers]
+    left = {number: int(row.split()[2]) for number, row in zip(numbers, rows)}
+    chosen = numbers[:: max(1, len(numbers) // LEFT_OUT)]
+    assert {number: left[number] for number in chosen} == {
+        number: value_without(state, number, is_closed) for number in chosen
     }
+
+
+def judge(problem: bytes) -> None:
+    """Compares the values without arcs, and those without nodes."""
+    state = read_problem(problem)
+    judge_rows(problem, [], list(range(1, len(state.arcs) + 1)), is_arc)
+    inner = [v for v in range(1, state.nodes + 1) if v not in (state.source, state.sink)]
+    judge_rows(problem, [NODES], inner, is_at_node)
 
 
 @pytest.mark.seconds(5)
 @pytest.mark.parametrize("family", FAMILIES)
 def test_families(generate: Generate, family: str) -> None:
-    judge(generate(family, ARCS), ARCS // LEFT_OUT)
+    judge(generate(family, ARCS))
 
 
 @pytest.mark.parametrize("name", ["a.max", "b.max", "n.max"])

@@ -105,7 +105,7 @@ fn run_asked(rt: &HostRuntime, asked: &Arguments) -> Result<Status, Fault>
     ensures { MayRun (task_of asked.now) result }
 {
     let out = output(rt)?;
-    if let Mode::Solve { .. } | Mode::Vital = asked.mode {
+    if let Mode::Solve { .. } | Mode::Vital { .. } = asked.mode {
         invite(rt);
     }
     let progress = Progress::new(rt, asked.progress);
@@ -167,6 +167,6 @@ fn input_for<'a>(
 fn path_in(mode: &Mode) -> &str {
     match mode {
         Mode::Session { problem, .. } | Mode::Check { problem } => problem.as_str(),
-        Mode::Solve { .. } | Mode::Vital => "",
+        Mode::Solve { .. } | Mode::Vital { .. } => "",
     }
 }

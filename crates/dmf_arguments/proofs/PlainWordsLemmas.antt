@@ -84,34 +84,15 @@ plain_words = record {
   check = check;
   vital = (λ name. refl, λ name. refl);
   vital_progress = (λ name. refl, λ name. refl);
+  vital_nodes = (λ name. refl, λ name. refl);
+  vital_both = (λ name. refl, λ name. refl);
   no_path = (λ name. refl, λ name. refl);
   solve_path = solve_path;
   vital_path = vital_path;
   second_path = second_path;
-  misplaced_option = λ rest. (λ n. refl, (λ n. refl, (λ n. refl, (λ n. refl, (λ n. refl, tt)))));
-  strange_option = λ word. (
-    λ n. refl,
-    (
-      λ n. refl,
-      (
-        λ n. refl,
-        (
-          λ n. refl,
-          (
-            λ n. refl,
-            (
-              λ n. refl,
-              (
-                λ n. refl,
-                (λ n. refl, (λ n. refl, (λ n. refl, (λ n. refl, tt)))),
-              ),
-            ),
-          ),
-        ),
-      ),
-    ),
-  );
-  second_option = λ word. (λ n. refl, (λ n. refl, (λ n. refl, (λ n. refl, (λ n. refl, (λ n. refl, (λ n. refl, (λ n. refl, tt))))))));
+  misplaced_option = λ rest. (λ n. refl, (λ n. refl, (λ n. refl, (λ n. refl, (λ n. refl, (λ n. refl, tt))))));
+  strange_option = λ word. (λ n. refl, (λ n. refl, (λ n. refl, (λ n. refl, (λ n. refl, (λ n. refl, (λ n. refl, (λ n. refl, (λ n. refl, (λ n. refl, (λ n. refl, (λ n. refl, (λ n. refl, (λ n. refl, tt))))))))))))));
+  second_option = λ word. (λ n. refl, (λ n. refl, (λ n. refl, (λ n. refl, (λ n. refl, (λ n. refl, (λ n. refl, (λ n. refl, (λ n. refl, tt)))))))));
   no_command = no_command;
   help = λ rest. (λ n. refl, (λ n. refl, (λ n. refl, (λ n. refl, (λ n. refl, tt)))));
   help_of = λ rest name. refl;

@@ -8,7 +8,7 @@ use Rattle.clap.specs.declared.error.kind.ErrorKind.{ErrorKind}
 use Rattle.clap.specs.declared.error.kind.ErrorKind.TheVariants.{OutOfMemory}
 use Rattle.clap.proofs.OnLiterals.{clap_on_literals}
 use Rattle.dmf_arguments.specs.CommandLine.{Asked, arguments, asked_of}
-use Rattle.dmf_arguments.specs.Words.{Asks, IsToldOf, TellsKind, holding, solving}
+use Rattle.dmf_arguments.specs.Words.{Asks, IsToldOf, TellsKind, holding, solving, valuing}
 use Rattle.dmf_arguments.specs.declared.words.WordsFault.{WordsFault}
 use Rattle.dmf_arguments.specs.declared.words.WordsFault.TheVariants.{NoMemory}
 
@@ -34,10 +34,10 @@ module _ (kinds : Kinds) (kind : ErrorKind) (fault : WordsFault) (among : (kind 
   short asked clean =
       let memory : fault ≡ NoMemory = elim among [ inl e ↦ tells.memory e | inr one ↦ absurd (subst (IsAmong kind) clean one) ] in (
         λ is. memory,
-        λ cut brief any progress text path is. memory,
-        λ cut brief progress any text bound path is written. memory,
-        λ cut brief any progress text path is. memory,
-        λ progress cut brief any text path is. memory,
+        λ cut brief any progress nodes text path is. memory,
+        λ cut brief progress any nodes text bound path is written. memory,
+        λ cut brief any nodes progress text path is. memory,
+        λ nodes progress cut brief any text path is. memory,
       )
 
   -- Where a parse gives some kinds of fault, the answer tells of one of these.
@@ -45,26 +45,28 @@ module _ (kinds : Kinds) (kind : ErrorKind) (fault : WordsFault) (among : (kind 
   told first others are = elim among [ inl e ↦ inl (tells.memory e) | inr one ↦ inr (kind, subst (IsAmong kind) are one, tells) ]
 
 -- What the arguments of a parsed command ask for.
-pub record AskedRows (rows : List Row) (flag brief any progress bound path : Option Text) : Type 0 where
+pub record AskedRows (rows : List Row) (flag brief any nodes progress bound path : Option Text) : Type 0 where
   pub flag_is : one_of (codes "cut") rows ≡ flag
   pub brief_is : one_of (codes "brief") rows ≡ brief
   pub any_is : one_of (codes "any") rows ≡ any
+  pub nodes_is : one_of (codes "nodes") rows ≡ nodes
   pub progress_is : one_of (codes "progress") rows ≡ progress
   pub bound_is : one_of (codes "history") rows ≡ bound
   pub path_is : first_of (codes "problem") rows ≡ path
 
 -- Where a command was found, what is asked for is what its rows say.
-pub asked_rows : (found : Option (Text × List Row)) (rows : List Row) (name : Text) (flag brief any progress bound path : Option Text)
+pub asked_rows : (found : Option (Text × List Row)) (rows : List Row) (name : Text) (flag brief any nodes progress bound path : Option Text)
     → Some rows ≡ option_map (λ p. p.1) found → asked_of found
-    ≡ Some (record { command = name; cut = flag; brief = brief; any = any; progress = progress; history = bound; problem = path })
-    → AskedRows rows flag brief any progress bound path
-asked_rows None rows name flag brief any progress bound path has asked = cc
-asked_rows (Some p) rows name flag brief any progress bound path has asked =
+    ≡ Some (record { command = name; cut = flag; brief = brief; any = any; nodes = nodes; progress = progress; history = bound; problem = path })
+    → AskedRows rows flag brief any nodes progress bound path
+asked_rows None rows name flag brief any nodes progress bound path has asked = cc
+asked_rows (Some p) rows name flag brief any nodes progress bound path has asked =
     let same : rows ≡ p.1 = cc in
     rw same (record {
       flag_is = ap (option_and_then (λ (q : Asked). q.cut)) asked;
       brief_is = ap (option_and_then (λ (q : Asked). q.brief)) asked;
       any_is = ap (option_and_then (λ (q : Asked). q.any)) asked;
+      nodes_is = ap (option_and_then (λ (q : Asked). q.nodes)) asked;
       progress_is = ap (option_and_then (λ (q : Asked). q.progress)) asked;
       bound_is = ap (option_and_then (λ (q : Asked). q.history)) asked;
       path_is = ap (option_and_then (λ (q : Asked). q.problem)) asked;
@@ -79,6 +81,10 @@ same-holding c b t n p = cc
 pub same-solving : {cut wanted brief short any some progress told : Bool} → cut ≡ wanted → brief ≡ short → any ≡ some → progress ≡ told
     → solving cut brief any progress ≡ solving wanted short some told
 same-solving c b a p = cc
+
+-- Valuings that are asked for with equal parts are equal.
+pub same-valuing : {nodes wanted progress told : Bool} → nodes ≡ wanted → progress ≡ told → valuing nodes progress ≡ valuing wanted told
+same-valuing n p = cc
 
 -- a flag reads as its text says
 pub flag_reads : (cut read : Bool) (text : Option Text) → (text ≡ Some (codes "true") → read ≡ true)

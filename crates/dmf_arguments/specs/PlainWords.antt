@@ -32,7 +32,7 @@ abbrev pub IsTaken : List Text → Option Asked → Type 0
 IsTaken words asked = HasFaults [] words × ((name : Text) → asked_in (name ∷ words) ≡ asked)
 
 -- a solve, with the cut, a brief answer, any greatest flow and progress or without; a session, with the cut, brief replies and progress or
--- without; a check; a valuing of each arc, with progress or without
+-- without; a check; a valuing of each arc or of each node, with progress or without
 abbrev pub solve_of : Bool → Bool → Bool → Bool → Option Asked
 solve_of cut brief any progress =
     Some (record {
@@ -40,6 +40,7 @@ solve_of cut brief any progress =
       cut = Some (bool_text cut);
       brief = Some (bool_text brief);
       any = Some (bool_text any);
+      nodes = None;
       progress = Some (bool_text progress);
       history = None;
       problem = None;
@@ -52,6 +53,7 @@ session_of cut brief progress path =
       cut = Some (bool_text cut);
       brief = Some (bool_text brief);
       any = None;
+      nodes = None;
       progress = Some (bool_text progress);
       history = Some (codes "1000000");
       problem = Some path;
@@ -59,15 +61,16 @@ session_of cut brief progress path =
 
 abbrev pub check_of : Text → Option Asked
 check_of path =
-    Some (record { command = codes "check"; cut = None; brief = None; any = None; progress = None; history = None; problem = Some path })
+    Some (record { command = codes "check"; cut = None; brief = None; any = None; nodes = None; progress = None; history = None; problem = Some path })
 
-abbrev pub vital_of : Bool → Option Asked
-vital_of progress =
+abbrev pub vital_of : Bool → Bool → Option Asked
+vital_of nodes progress =
     Some (record {
       command = codes "vital";
       cut = None;
       brief = None;
       any = None;
+      nodes = Some (bool_text nodes);
       progress = Some (bool_text progress);
       history = None;
       problem = None;
@@ -75,14 +78,15 @@ vital_of progress =
 
 -- words that begin with an option, whatever stands after it
 abbrev pub misplaced : List Text → List (List Text)
-misplaced rest = (codes "--cut" ∷ rest) ∷ (codes "--brief" ∷ rest) ∷ (codes "--any" ∷ rest) ∷ (codes "--progress" ∷ rest)
+misplaced rest = (codes "--cut" ∷ rest) ∷ (codes "--brief" ∷ rest) ∷ (codes "--any" ∷ rest) ∷ (codes "--nodes" ∷ rest) ∷ (codes "--progress" ∷ rest)
     ∷ (codes "--history" ∷ rest) ∷ []
 
 -- words with an option after a command that does not take it
 abbrev pub strange : Text → List (List Text)
-strange word = (codes "solve" ∷ codes "--history" ∷ word ∷ []) ∷ (codes "session" ∷ codes "--any" ∷ word ∷ [])
+strange word = (codes "solve" ∷ codes "--history" ∷ word ∷ []) ∷ (codes "solve" ∷ codes "--nodes" ∷ word ∷ [])
+    ∷ (codes "session" ∷ codes "--any" ∷ word ∷ []) ∷ (codes "session" ∷ codes "--nodes" ∷ word ∷ [])
     ∷ (codes "check" ∷ codes "--any" ∷ word ∷ []) ∷ (codes "check" ∷ codes "--cut" ∷ word ∷ []) ∷ (codes "check" ∷ codes "--brief" ∷ word ∷ [])
-    ∷ (codes "check" ∷ codes "--progress" ∷ word ∷ []) ∷ (codes "check" ∷ codes "--history" ∷ word ∷ [])
+    ∷ (codes "check" ∷ codes "--nodes" ∷ word ∷ []) ∷ (codes "check" ∷ codes "--progress" ∷ word ∷ []) ∷ (codes "check" ∷ codes "--history" ∷ word ∷ [])
     ∷ (codes "vital" ∷ codes "--any" ∷ word ∷ []) ∷ (codes "vital" ∷ codes "--cut" ∷ word ∷ []) ∷ (codes "vital" ∷ codes "--brief" ∷ word ∷ [])
     ∷ (codes "vital" ∷ codes "--history" ∷ word ∷ []) ∷ []
 
@@ -91,7 +95,8 @@ abbrev pub repeated : Text → List (List Text)
 repeated word = (codes "solve" ∷ codes "--any" ∷ codes "--any" ∷ []) ∷ (codes "solve" ∷ codes "--brief" ∷ codes "--brief" ∷ [])
     ∷ (codes "solve" ∷ codes "--cut" ∷ codes "--cut" ∷ []) ∷ (codes "solve" ∷ codes "--progress" ∷ codes "--progress" ∷ [])
     ∷ (codes "session" ∷ codes "--cut" ∷ codes "--cut" ∷ word ∷ []) ∷ (codes "session" ∷ codes "--brief" ∷ codes "--brief" ∷ word ∷ [])
-    ∷ (codes "session" ∷ codes "--progress" ∷ codes "--progress" ∷ word ∷ []) ∷ (codes "vital" ∷ codes "--progress" ∷ codes "--progress" ∷ []) ∷ []
+    ∷ (codes "session" ∷ codes "--progress" ∷ codes "--progress" ∷ word ∷ []) ∷ (codes "vital" ∷ codes "--nodes" ∷ codes "--nodes" ∷ [])
+    ∷ (codes "vital" ∷ codes "--progress" ∷ codes "--progress" ∷ []) ∷ []
 
 -- words that ask for help: alone, whatever stands after it, and after a command
 abbrev pub helps : List Text → List (List Text)
@@ -111,8 +116,10 @@ pub record PlainWords : Type 0 where
   pub session_cut : (path : Text) → IsPlain path → IsTaken (codes "session" ∷ codes "--cut" ∷ path ∷ []) (session_of true false false path)
   pub cut_behind : (path : Text) → IsPlain path → IsTaken (codes "session" ∷ path ∷ codes "--cut" ∷ []) (session_of true false false path)
   pub check : (path : Text) → IsPlain path → IsTaken (codes "check" ∷ path ∷ []) (check_of path)
-  pub vital : IsTaken (codes "vital" ∷ []) (vital_of false)
-  pub vital_progress : IsTaken (codes "vital" ∷ codes "--progress" ∷ []) (vital_of true)
+  pub vital : IsTaken (codes "vital" ∷ []) (vital_of false false)
+  pub vital_progress : IsTaken (codes "vital" ∷ codes "--progress" ∷ []) (vital_of false true)
+  pub vital_nodes : IsTaken (codes "vital" ∷ codes "--nodes" ∷ []) (vital_of true false)
+  pub vital_both : IsTaken (codes "vital" ∷ codes "--progress" ∷ codes "--nodes" ∷ []) (vital_of true true)
   pub no_path : HasFaults (MissingRequiredArgument ∷ []) (codes "session" ∷ []) × HasFaults (MissingRequiredArgument ∷ []) (codes "check" ∷ [])
   pub solve_path : (path : Text) → IsPlain path → HasFaults (UnknownArgument ∷ []) (codes "solve" ∷ path ∷ [])
   pub vital_path : (path : Text) → IsPlain path → HasFaults (UnknownArgument ∷ []) (codes "vital" ∷ path ∷ [])

@@ -15,18 +15,19 @@ use Rattle.dmf_arguments.specs.declared.words.WordsFault.TheVariants.{Help, Usag
 
 -- The task of the program, with the path of the problem's file. A solve and a session say whether the cut is wanted, whether a solve is
 -- answered briefly, and last whether progress is wanted where standard error is no terminal. A solve also says before that whether any
--- greatest flow will do, and a session after it the bound of its history. To value each arc has no path, and says whether progress is wanted.
+-- greatest flow will do, and a session after it the bound of its history. A run that values each arc, or each node where the first flag says
+-- so, has no path, and says whether progress is wanted.
 pub data Task : Type 0 where
   solving : Bool → Bool → Bool → Bool → Task
   holding : Bool → Bool → Bool → ℕ → Text → Task
   checking : Text → Task
-  valuing : Bool → Task
+  valuing : Bool → Bool → Task
 
 abbrev pub task_with : Bool → Bool → Mode → Task
 task_with brief progress (mode.Solve cut any) = solving cut brief any progress
 task_with brief progress (mode.Session cut history problem) = holding cut brief progress history problem.bytes.items
 task_with brief progress (mode.Check problem) = checking problem.bytes.items
-task_with brief progress mode.Vital = valuing progress
+task_with brief progress (mode.Vital nodes) = valuing nodes progress
 
 abbrev pub task_of : Arguments → Task
 task_of asked = task_with asked.brief asked.progress asked.mode
@@ -40,7 +41,7 @@ abbrev pub HasBound : Mode → Type 0
 HasBound (mode.Solve cut any) = ⊤
 HasBound (mode.Session cut history problem) = history ≤ 1000000
 HasBound (mode.Check problem) = ⊤
-HasBound mode.Vital = ⊤
+HasBound (mode.Vital nodes) = ⊤
 
 -- The text writes this bound: decimal digits, after a plus or not, of a number that is at most 1,000,000.
 pub record IsBound (text : Text) (bound : ℕ) : Type 0 where
@@ -55,12 +56,13 @@ abbrev pub AsksNothing : Option Asked → Result Arguments WordsFault → Type 0
 AsksNothing asked result = asked ≡ None → GivesTask (solving false false false false) result
 
 abbrev pub AsksSolve : Option Asked → Result Arguments WordsFault → Type 0
-AsksSolve asked result = (cut brief any progress : Bool) (text path : Option Text)
+AsksSolve asked result = (cut brief any progress : Bool) (nodes text path : Option Text)
     → asked ≡ Some (record {
       command = codes "solve";
       cut = Some (bool_text cut);
       brief = Some (bool_text brief);
       any = Some (bool_text any);
+      nodes = nodes;
       progress = Some (bool_text progress);
       history = text;
       problem = path;
@@ -68,12 +70,13 @@ AsksSolve asked result = (cut brief any progress : Bool) (text path : Option Tex
     → GivesTask (solving cut brief any progress) result
 
 abbrev pub AsksSession : Option Asked → Result Arguments WordsFault → Type 0
-AsksSession asked result = (cut brief progress : Bool) (any : Option Text) (text : Text) (bound : ℕ) (path : Text)
+AsksSession asked result = (cut brief progress : Bool) (any nodes : Option Text) (text : Text) (bound : ℕ) (path : Text)
     → asked ≡ Some (record {
       command = codes "session";
       cut = Some (bool_text cut);
       brief = Some (bool_text brief);
       any = any;
+      nodes = nodes;
       progress = Some (bool_text progress);
       history = Some text;
       problem = Some path;
@@ -81,22 +84,23 @@ AsksSession asked result = (cut brief progress : Bool) (any : Option Text) (text
     → IsBound text bound → GivesTask (holding cut brief progress bound path) result
 
 abbrev pub AsksCheck : Option Asked → Result Arguments WordsFault → Type 0
-AsksCheck asked result = (cut brief any progress text : Option Text) (path : Text)
-    → asked ≡ Some (record { command = codes "check"; cut = cut; brief = brief; any = any; progress = progress; history = text; problem = Some path })
+AsksCheck asked result = (cut brief any nodes progress text : Option Text) (path : Text)
+    → asked ≡ Some (record { command = codes "check"; cut = cut; brief = brief; any = any; nodes = nodes; progress = progress; history = text; problem = Some path })
     → GivesTask (checking path) result
 
 abbrev pub AsksVital : Option Asked → Result Arguments WordsFault → Type 0
-AsksVital asked result = (progress : Bool) (cut brief any text path : Option Text)
+AsksVital asked result = (nodes progress : Bool) (cut brief any text path : Option Text)
     → asked ≡ Some (record {
       command = codes "vital";
       cut = cut;
       brief = brief;
       any = any;
+      nodes = Some (bool_text nodes);
       progress = Some (bool_text progress);
       history = text;
       problem = path;
     })
-    → GivesTask (valuing progress) result
+    → GivesTask (valuing nodes progress) result
 
 abbrev pub Asks : Option Asked → Result Arguments WordsFault → Type 0
 Asks asked result = AsksNothing asked result × AsksSolve asked result × AsksSession asked result × AsksCheck asked result × AsksVital asked result

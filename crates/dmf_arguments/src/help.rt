@@ -21,6 +21,9 @@ pub const CUTS: &str = "Write the smallest minimum cut after each solution";
 /// The option `--history`.
 pub const HISTORY: &str = "Keep at most N changes for undo";
 
+/// The option `--nodes`.
+pub const NODES: &str = "Leave out each node in turn, rather than each arc";
+
 /// The option `--progress`.
 pub const PROGRESS: &str = "Tell on standard error how far it is";
 
@@ -44,7 +47,7 @@ pub const PROGRAM: Help = Help {
     usage: "dmf [solve [--any] [--brief] [--cut] [--progress]] <FILE
        dmf session [--brief] [--cut] [--history N] [--progress] PROBLEM
        dmf check PROBLEM <SOLUTION
-       dmf vital [--progress] <FILE",
+       dmf vital [--nodes] [--progress] <FILE",
     notes: "How much can the network carry, and where is its limit?
   $ dmf solve --cut <network.max | grep -v '^f'
   s 5
@@ -164,8 +167,8 @@ status 1. man dmf has the formats.",
 
 /// The help of `dmf vital`.
 pub const VITAL: Help = Help {
-    about: "Find how much can be sent without each arc",
-    usage: "dmf vital [--progress] <FILE",
+    about: "Find how much can be sent without each arc, or without each node",
+    usage: "dmf vital [--nodes] [--progress] <FILE",
     notes: "Example:
   $ dmf vital <network.max
   c value 5
@@ -179,6 +182,13 @@ The line c value has how much can be sent in all. Each line v has the number of
 an arc and how much can be sent if that arc alone is closed. Arcs are numbered
 from 1 in the order of the problem. An arc that costs nothing to lose has its
 line too.
+
+With --nodes each line v has the number of a node, neither the source nor the
+sink, and how much can be sent if all arcs at that node are closed:
+  $ dmf vital --nodes <network.max
+  c value 5
+  v 2 2
+  v 3 2
 
 man dmf has the formats.",
 };

@@ -34,8 +34,10 @@ pub enum Mode {
     Check {
         problem: String,
     },
-    /// Find what is left without each arc of the problem on standard input.
-    Vital,
+    /// Find what is left without each arc of the problem on standard input, or with `nodes` without each node.
+    Vital {
+        nodes: bool,
+    },
 }
 
 /// All that the arguments ask for: a run; whether it reports progress even if standard error is no terminal; and whether a solve is
@@ -85,8 +87,8 @@ pub fn read_words(alloc: Global, words: Vec<String>) -> Result<Mode, WordsFault>
 ///
 /// No words after it, or `solve`, ask for [`Mode::Solve`]. `session PROBLEM` asks for [`Mode::Session`], `check PROBLEM` for
 /// [`Mode::Check`], and `vital` for [`Mode::Vital`]. The flags `--brief`, `--cut` and `--progress` may stand after `solve` and `session`,
-/// `--any` after `solve` alone, `--history N` after `session` alone, and `--progress` after `vital` too. N is a number up to [`MAX_HISTORY`], which is its default. `--help` may stand after each
-/// command or alone. A PROBLEM that begins with a dash stands after `--`.
+/// `--any` after `solve` alone, `--history N` after `session` alone, `--nodes` after `vital` alone, and `--progress` after `vital` too. N is a
+/// number up to [`MAX_HISTORY`], which is its default. `--help` may stand after each command or alone. A PROBLEM that begins with a dash stands after `--`.
 ///
 /// `--help` gives [`WordsFault::Help`], and so do `help`, alone or before a command, and `--version` alone. All other words give
 /// [`WordsFault::Usage`]. The texts are those of `clap`. [`WordsFault::NoMemory`] may come in place of any answer.
@@ -169,7 +171,9 @@ fn check<'a>(alloc: Global) -> Result<Command<'a>, AllocError>
 fn vital<'a>(alloc: Global) -> Result<Command<'a>, AllocError>
     ensures { IfOk result (IsCommandLine vital_line) }
 {
-    named(alloc, "vital", help::VITAL).arg(flag(alloc, "progress", help::PROGRESS))
+    named(alloc, "vital", help::VITAL)
+        .arg(flag(alloc, "nodes", help::NODES))?
+        .arg(flag(alloc, "progress", help::PROGRESS))
 }
 
 /// The option of this name, which has no value.
@@ -234,7 +238,9 @@ fn arguments_of(alloc: Global, matches: &ArgMatches<'_>) -> Result<Arguments, Wo
         Some(("vital", vital)) => Ok(Arguments {
             progress: vital.get_flag("progress"),
             brief: false,
-            mode: Mode::Vital,
+            mode: Mode::Vital {
+                nodes: vital.get_flag("nodes"),
+            },
         }),
         Some((_, solve)) => Ok(Arguments {
             progress: solve.get_flag("progress"),

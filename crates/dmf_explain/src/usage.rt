@@ -11,8 +11,9 @@ pub enum Meant<'a> {
         flags: SolveFlags,
         file: &'a str,
     },
-    /// To value each arc of the problem in this file, which has to come from standard input.
+    /// To value each arc, or each node, of the problem in this file, which has to come from standard input.
     Vital {
+        nodes: bool,
         file: &'a str,
     },
     /// To check a problem's solution, or to run commands on a problem, from this file, which has to come from standard input.
@@ -51,9 +52,10 @@ impl fmt::Display for Meant<'_> {
                 let shown = Shown(file.as_bytes());
                 write!(f, "dmf solve {flags}<{shown}")
             }
-            Meant::Vital { file } => {
+            Meant::Vital { nodes, file } => {
+                let nodes = if *nodes { "--nodes " } else { "" };
                 let shown = Shown(file.as_bytes());
-                write!(f, "dmf vital <{shown}")
+                write!(f, "dmf vital {nodes}<{shown}")
             }
             Meant::Input {
                 command,
@@ -76,11 +78,7 @@ pub fn meant_by<'a>(words: &'a [String], most: u32) -> Option<Meant<'a>> {
     }
     match words {
         [_, command, rest @ ..] if command.as_str() == "solve" => solve_of(rest),
-        [_, command, file] if command.as_str() == "vital" && is_file_name(file.as_str()) => {
-            Some(Meant::Vital {
-                file: file.as_str(),
-            })
-        }
+        [_, command, rest @ ..] if command.as_str() == "vital" => vital_of(rest),
         [_, command, problem, file] => input_of(command.as_str(), problem.as_str(), file.as_str()),
         [_, file] if is_file_name(file.as_str()) => Some(Meant::Solve {
             flags: SolveFlags::default(),
@@ -120,6 +118,20 @@ fn solve_of(words: &[String]) -> Option<Meant<'_>> {
     }
     let file = meant?;
     Some(Meant::Solve { flags, file })
+}
+
+/// The run that the words after `vital` may mean: they have one file, with `--nodes` or without.
+fn vital_of(words: &[String]) -> Option<Meant<'_>> {
+    let (nodes, file) = match words {
+        [file] => (false, file.as_str()),
+        [flag, file] if flag.as_str() == "--nodes" => (true, file.as_str()),
+        [file, flag] if flag.as_str() == "--nodes" => (true, file.as_str()),
+        _ => return None,
+    };
+    if is_file_name(file) {
+        return Some(Meant::Vital { nodes, file });
+    }
+    None
 }
 
 /// Whether the word may name a file, by a name that needs no quotes.

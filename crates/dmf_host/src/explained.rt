@@ -40,7 +40,7 @@ fn explain_run(rt: &HostRuntime, mode: &Mode, fault: &Fault) {
 /// Where the problem comes from.
 fn origin_of<'a>(mode: &'a Mode) -> Origin<'a> {
     match mode {
-        Mode::Solve { .. } | Mode::Vital => Origin::Input,
+        Mode::Solve { .. } | Mode::Vital { .. } => Origin::Input,
         Mode::Session { problem, .. } | Mode::Check { problem } => Origin::File(problem.as_str()),
     }
 }

@@ -15,7 +15,7 @@ use Rattle.dmf_streams.specs.declared.fault.EngineFault.{EngineFault}
 use Rattle.dmf_streams.specs.declared.fault.EngineFault.TheVariants as engine
 use Rattle.dmf_solving.specs.SolveRun.{RunsSolve, RunsBrief, RunsAny}
 use Rattle.dmf_solving.specs.CheckRun.{RunsCheck}
-use Rattle.dmf_valuing.specs.Rows.{AreArcRows}
+use Rattle.dmf_valuing.specs.Rows.{AreArcRows, AreNodeRows}
 use Rattle.dmf_valuing.specs.VitalRun.{RunsVital}
 use Rattle.dmf_runs.specs.Streams.{Streams}
 use Rattle.dmf_runs.specs.Session.{RunsSessionWith}
@@ -48,6 +48,11 @@ RunsSolving cut true any = RunsBrief cut
 RunsSolving cut false true = RunsAny cut
 RunsSolving cut false false = RunsSolve cut
 
+-- A run that values each node, or else each arc.
+abbrev pub RunsValuing : Bool → Reader → Reader → Writer → Writer → Result Status EngineFault → Type 0
+RunsValuing true = RunsVital AreNodeRows
+RunsValuing false = RunsVital AreArcRows
+
 -- The file at the path was opened, and the program ends as a run on its reader that is so.
 pub record RunsOnFile (Opens : Opening) (path : List ℕ) (Runs : Reader → Reader → Result Status EngineFault → Type 0)
     (result : Result Status Fault) : Type 0 where
@@ -68,8 +73,8 @@ abbrev pub RunsOn : Opening → List ℕ → Streams → Streams → (Reader →
 RunsOn Opens path old new Runs result = RunsOnFile Opens path Runs result ⊎ FindsNoFile Opens path old new result
 
 -- The run of a task, over standard input and standard output. A solve reads its problem from standard input, and so does a run that values
--- each arc. A session and a check read it from the file at their path, and the commands or the solution from standard input. Progress is no part of this: it goes to standard
--- error, of which no definition speaks.
+-- each arc or each node. A session and a check read it from the file at their path, and the commands or the solution from standard input.
+-- Progress is no part of this: it goes to standard error, of which no definition speaks.
 abbrev pub RunsTask : Opening → Task → Streams → Streams → Result Status Fault → Type 0
 RunsTask Opens (solving cut brief any progress) old new result =
     EndsAs (RunsSolving cut brief any old.reader new.reader old.writer new.writer) result
@@ -77,7 +82,7 @@ RunsTask Opens (holding cut brief progress bound path) old new result =
     RunsOn Opens path old new (λ from to. RunsSessionWith (record { cut = cut; brief = brief }) bound from to old new) result
 RunsTask Opens (checking path) old new result =
     RunsOn Opens path old new (λ from to. RunsCheck from to old.reader new.reader old.writer new.writer) result
-RunsTask Opens (valuing progress) old new result = EndsAs (RunsVital AreArcRows old.reader new.reader old.writer new.writer) result
+RunsTask Opens (valuing nodes progress) old new result = EndsAs (RunsValuing nodes old.reader new.reader old.writer new.writer) result
 
 -- ---- the program
 

@@ -2,7 +2,7 @@
 ghost use Rattle.std.specs.Prelude.{◌≡◌};
 ghost use Rattle.dmf_arguments.specs.Words.{HasBound, task_of};
 ghost use Rattle.dmf_runs.specs.Streams.{streams_of};
-ghost use Rattle.dmf_program.specs.Program.{RunsSolving, RunsTask, ended};
+ghost use Rattle.dmf_program.specs.Program.{RunsSolving, RunsTask, RunsValuing, ended};
 
 use crate::files::Files;
 use dmf_arguments::{Arguments, Mode};
@@ -12,7 +12,7 @@ use dmf_solver::Watch;
 use dmf_solving::{run_check, run_solve_any, run_solve_brief, run_solve_watched};
 use dmf_streams::{EngineFault, Status};
 use dmf_text::{Sink, Source};
-use dmf_valuing::run_vital;
+use dmf_valuing::{run_vital, run_vital_nodes};
 use std::alloc::Global;
 
 /// What a solve is to write.
@@ -26,8 +26,8 @@ pub struct SolveAnswer {
     pub any: bool,
 }
 
-/// Runs what the arguments ask for. A solve reads its problem from standard input, and so does a run that values each arc. A session and a
-/// check read it from the file at the path of the arguments, and the commands or the solution from standard input.
+/// Runs what the arguments ask for. A solve reads its problem from standard input, and so does a run that values each arc or each node. A
+/// session and a check read it from the file at the path of the arguments, and the commands or the solution from standard input.
 ///
 /// Fails with the fault of the opening if the file cannot be opened. Then nothing is read and nothing is written. Else fails as the
 /// run does.
@@ -68,7 +68,7 @@ pub fn run_program<P: Source + Drop, F: Files<P>, C: Source, W: Sink, V: Session
             let mut problem = files.open(path.as_str())?;
             ended(run_check(alloc, &mut problem, input, out))
         }
-        Mode::Vital => ended(run_vital(alloc, input, out, watch)),
+        Mode::Vital { nodes } => ended(run_valuing(alloc, *nodes, input, out, watch)),
     }
 }
 
@@ -93,6 +93,26 @@ pub fn run_solving<P: Source, W: Sink, V: Watch>(
         run_solve_any(alloc, problem, out, wanted.cut, watch)
     } else {
         run_solve_watched(alloc, problem, out, wanted.cut, watch)
+    }
+}
+
+/// Writes the greatest value of a problem, and what is left of it without each arc, or without each node.
+///
+/// Fails as [`run_vital`] does.
+#[inline(never)]
+fn run_valuing<P: Source, W: Sink, V: Watch>(
+    alloc: Global,
+    nodes: bool,
+    problem: &mut P,
+    out: &mut W,
+    watch: &mut V,
+) -> Result<Status, EngineFault>
+    ensures { RunsValuing nodes (P.left problem.old) (P.left problem.new) (W.written out.old) (W.written out.new) result }
+{
+    if nodes {
+        run_vital_nodes(alloc, problem, out, watch)
+    } else {
+        run_vital(alloc, problem, out, watch)
     }
 }
 

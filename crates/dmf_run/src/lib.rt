@@ -8,4 +8,4 @@ pub use dmf_runs::{
     run_session_watched, run_solve, run_solve_watched, status_of,
 };
 pub use dmf_solving::{run_solve_any, run_solve_brief};
-pub use dmf_valuing::run_vital;
+pub use dmf_valuing::{run_vital, run_vital_nodes};

@@ -3,7 +3,7 @@ use dmf_net::Unwatched;
 use dmf_run::{
     EngineFault, Mode, SolveReply, Status, WordsFault, read_command, read_words, refusal_text,
     run_check, run_commands, run_session, run_session_bounded, run_session_watched, run_solve,
-    run_vital, status_of,
+    run_vital, run_vital_nodes, status_of,
 };
 use dmf_session::{Command, DeltaHistory, Refusal, Session};
 use dmf_text::{StdSink, StdSource, read_problem};
@@ -62,6 +62,18 @@ fn each_arc_is_valued(rt: HostRuntime) {
     let outcome = run_vital(rt.alloc(), &mut problem, &mut out, &mut Unwatched);
     assert!(rt; outcome == Ok(Status::Well));
     assert!(rt; written.as_slice() == b"c value 7\nv 1 0\n".as_slice());
+}
+
+#[test]
+fn each_node_is_valued(rt: HostRuntime) {
+    let mut written = Vec::new(rt.alloc());
+    let mut problem = StdSource::new(
+        b"p max 3 3\nn 1 s\nn 3 t\na 1 2 7\na 2 3 4\na 1 3 2\n".as_slice(),
+    );
+    let mut out = StdSink::new(&mut written);
+    let outcome = run_vital_nodes(rt.alloc(), &mut problem, &mut out, &mut Unwatched);
+    assert!(rt; outcome == Ok(Status::Well));
+    assert!(rt; written.as_slice() == b"c value 6\nv 2 2\n".as_slice());
 }
 
 #[test]
@@ -152,7 +164,8 @@ fn number_of(asked: &Result<Mode, WordsFault>) -> u32 {
             },
         ) => 2,
         Ok(Mode::Check { problem: _ }) => 3,
-        Ok(Mode::Vital) => 4,
+        Ok(Mode::Vital { nodes: false }) => 4,
+        Ok(Mode::Vital { nodes: true }) => 5,
         Err(WordsFault::Help(_)) => 11,
         Err(WordsFault::Usage(_)) => 12,
         Err(WordsFault::NoMemory) => 13,
@@ -160,11 +173,12 @@ fn number_of(asked: &Result<Mode, WordsFault>) -> u32 {
 }
 
 /// Words, each with the number of what they ask for.
-const WORDS: [(&str, u32); 7] = [
+const WORDS: [(&str, u32); 8] = [
     ("", 1),
     ("session --cut P", 2),
     ("check P", 3),
     ("vital", 4),
+    ("vital --nodes", 5),
     ("--help", 11),
     ("--version", 11),
     ("wash", 12),

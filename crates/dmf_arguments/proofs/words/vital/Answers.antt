@@ -3,4 +3,6 @@ use Rattle.dmf_arguments.proofs.CommandLemmas.{line_with}
 use Rattle.dmf_arguments.proofs.words.vital.Goals as goal
 
 pub returns : goal.returns
-returns c = IfOk-weaker c.arg.result _ _ (λ made adds. line_with adds c.flag.ensures c.named.ensures) c.arg.ensures
+returns c =
+    let nodes = line_with c.in_ok-arg.ensures c.flag.ensures c.named.ensures in
+    IfOk-weaker c.arg-2.result _ _ (λ made adds. line_with adds c.flag-2.ensures nodes) c.arg-2.ensures
