@@ -329,6 +329,32 @@ public:
         detail::expect_ok(dmf_session_side(live(), into.data(), into.size()));
     }
 
+    /// Returns what each arc is worth: at index j - 1 how much less the greatest value is if only arc j is closed. May take
+    /// long. Throws error with not_greatest before a solve(), or std::bad_alloc.
+    [[nodiscard]] std::vector<std::uint64_t> arc_losses() const {
+        std::vector<std::uint64_t> found(arcs());
+        arc_losses(found);
+        return found;
+    }
+
+    /// Writes these losses into an array of arcs() elements. Throws as arc_losses() does, and error with bad_length.
+    void arc_losses(span<std::uint64_t> into) const {
+        detail::expect_ok(dmf_session_arc_losses(live(), into.data(), into.size()));
+    }
+
+    /// Returns what each node is worth: at index v - 1 how much less the greatest value is if only the arcs at node v are
+    /// closed, and 0 for the source and the sink. May take long. Throws as arc_losses() does.
+    [[nodiscard]] std::vector<std::uint64_t> node_losses() const {
+        std::vector<std::uint64_t> found(nodes());
+        node_losses(found);
+        return found;
+    }
+
+    /// Writes these losses into an array of nodes() elements. Throws as node_losses() does, and error with bad_length.
+    void node_losses(span<std::uint64_t> into) const {
+        detail::expect_ok(dmf_session_node_losses(live(), into.data(), into.size()));
+    }
+
     /// Judges flows, one for each arc, as flows of the present network; the session's own flow does not matter. A wrong
     /// flow is an answer and not an error. Throws error with bad_length, or std::bad_alloc.
     [[nodiscard]] judgement check(span<const std::uint64_t> flows) const {

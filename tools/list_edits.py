@@ -116,7 +116,12 @@ AS_ANOTHER = "left out, since the gate tries the like for another call"
 LIKE_OTHERS = {
     "dmf_session_flows (answer)",
     *(f"dmf_session_capacities ({name})" for name in ("answer", "filled", "refused")),
-    *(f"dmf_session_{call} (unchanged)" for call in ("side", "problem", "solution")),
+    *(f"dmf_session_arc_losses ({name})" for name in ("answer", "refused")),
+    *(f"dmf_session_node_losses ({name})" for name in ("answer", "filled")),
+    *(
+        f"dmf_session_{call} (unchanged)"
+        for call in ("side", "arc_losses", "node_losses", "problem", "solution")
+    ),
 }
 # A clause which says that the value that a call reads is one of its type.
 INVARIANT = re.compile(

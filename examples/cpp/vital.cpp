@@ -16,20 +16,13 @@ struct loss {
     std::uint64_t arc, units;
 };
 
-// Solves without each arc in turn. An arc without flow costs nothing: without it the flow stays.
-std::vector<loss> losses(dmf::session &session) {
-    const std::uint64_t value = session.value();
-    const std::vector<std::uint64_t> flows = session.flows();
+// Returns the arcs whose loss costs something, the greatest loss first.
+std::vector<loss> costly(const dmf::session &session) {
     std::vector<loss> found;
-    for (std::size_t i = 0; i < flows.size(); i++) {
-        if (flows[i] == 0)
-            continue;
-        session.close(i + 1);
-        session.solve();
-        if (session.value() < value)
-            found.push_back({i + 1, value - session.value()});
-        session.undo(2);
-    }
+    std::uint64_t arc = 0;
+    for (const std::uint64_t units : session.arc_losses())
+        if (++arc; units > 0)
+            found.push_back({arc, units});
     std::stable_sort(found.begin(), found.end(), [](loss a, loss b) { return a.units > b.units; });
     return found;
 }
@@ -46,7 +39,7 @@ int main(int count, char **words) try {
     dmf::session session = dmf::session::read(contents(count > 1 ? words[1] : "/dev/stdin"));
     session.solve();
     std::cout << "maximum flow: " << session.value() << "\n";
-    const std::vector<loss> found = losses(session);
+    const std::vector<loss> found = costly(session);
     for (std::size_t i = 0; i < std::min<std::size_t>(found.size(), 10); i++)
         std::cout << "without arc " << found[i].arc << ": " << found[i].units << " less\n";
     if (!found.empty()) {

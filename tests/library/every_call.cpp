@@ -175,11 +175,29 @@ void ranging() {
     EXPECT(tails == std::vector<std::uint32_t>{1, 2, 2});
 }
 
+void losing() {
+    dmf::session session = example();
+    std::array<std::uint64_t, 5> of_arcs{9, 9, 9, 9, 9};
+    std::array<std::uint64_t, 4> of_nodes{9, 9, 9, 9};
+    REFUSED(not_greatest, (void)session.arc_losses());
+    REFUSED(not_greatest, session.node_losses(of_nodes));
+    session.solve();
+    EXPECT(session.arc_losses() == numbers{3, 2, 1, 2, 3} && session.node_losses() == numbers{0, 3, 3, 0});
+    REFUSED(bad_length, session.arc_losses(of_nodes));
+    REFUSED(bad_length, session.node_losses(of_arcs));
+    EXPECT(of_arcs[0] == 9 && of_nodes[3] == 9);
+    session.arc_losses(of_arcs);
+    session.node_losses(of_nodes);
+    EXPECT(of_arcs == std::array<std::uint64_t, 5>{3, 2, 1, 2, 3} && of_nodes == std::array<std::uint64_t, 4>{0, 3, 3, 0});
+    EXPECT(session.value() == 5 && session.past() == 1);
+}
+
 // The arrays of a network without arcs may lie nowhere.
 void without_arcs() {
     dmf::session session(2, 1, 2, {}, std::vector<std::uint32_t>(), {nullptr, 0});
     session.solve();
     EXPECT(session.value() == 0 && session.flows().empty() && session.check({}));
+    EXPECT(session.arc_losses().empty() && session.node_losses() == numbers{0, 0});
     EXPECT(session.problem() == "p max 2 0\nn 1 s\nn 2 t\n" && session.solution() == "s 0\n");
 }
 } // namespace
@@ -190,6 +208,7 @@ int main() {
     judging();
     changing();
     ranging();
+    losing();
     owning();
     without_arcs();
     EXPECT(dmf::abi() == DMF_ABI && dmf::version() == dmf_version());

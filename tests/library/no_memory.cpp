@@ -38,8 +38,12 @@ int main() {
     count += is_refused([&] { session.close(1); });
     count += is_refused([&] { session.shut(2); });
     count += is_refused([&] { (void)session.side(); });
+    std::vector<std::uint64_t> of_arcs(5, 9), of_nodes(4, 9);
+    count += is_refused([&] { session.arc_losses(of_arcs); });
+    count += is_refused([&] { session.node_losses(of_nodes); });
+    const bool unwritten = of_arcs == std::vector<std::uint64_t>(5, 9) && of_nodes == std::vector<std::uint64_t>(4, 9);
     count += is_refused([&] { (void)session.problem(); });
     count += is_refused([&] { (void)session.solution(); });
     count += is_refused([&] { (void)session.check({3, 2, 1, 2, 3}); });
-    std::cout << count << (unsolved && session.value() == 5 && session.past() == 1 ? "\n" : " and a change\n");
+    std::cout << count << (unsolved && unwritten && session.value() == 5 && session.past() == 1 ? "\n" : " and a change\n");
 }

@@ -73,7 +73,7 @@ static struct seen look(const dmf_session *session)
 
 /* What calls write. */
 struct outputs {
-    uint64_t flows[MOST], capacities[MOST], place, line;
+    uint64_t flows[MOST], capacities[MOST], of_arcs[ARCS], of_nodes[NODES], place, line;
     uint32_t tails[MOST], heads[MOST];
     uint8_t closed[MOST];
     dmf_session *session;
@@ -89,7 +89,7 @@ static struct outputs odd(void)
     return outputs;
 }
 
-enum step { SOLVE, FLOWS, RANGE, SIDE, CHECK, CAP, ADD, SOLVE_AGAIN, PROBLEM, SOLUTION, UNDO, REDO, CLOSE, SHUT, STEPS };
+enum step { SOLVE, FLOWS, RANGE, SIDE, ARC_LOSSES, NODE_LOSSES, CHECK, CAP, ADD, SOLVE_AGAIN, PROBLEM, SOLUTION, UNDO, REDO, CLOSE, SHUT, STEPS };
 
 static enum dmf_status call(dmf_session *session, enum step step, struct outputs *to)
 {
@@ -100,6 +100,8 @@ static enum dmf_status call(dmf_session *session, enum step step, struct outputs
     case FLOWS: return dmf_session_flows(session, to->flows, ARCS);
     case RANGE: return dmf_session_arc_range(session, 2, 3, to->tails, 3, to->heads, 3, to->capacities, 3, to->flows, 3, to->closed, 3);
     case SIDE: return dmf_session_side(session, to->side, NODES);
+    case ARC_LOSSES: return dmf_session_arc_losses(session, to->of_arcs, ARCS);
+    case NODE_LOSSES: return dmf_session_node_losses(session, to->of_nodes, NODES);
     case CHECK: return dmf_session_check(session, flows, ARCS, &to->place);
     case CAP: return dmf_session_cap(session, 5, 1);
     case ADD: return dmf_session_add(session, 1, 4, 7);
@@ -125,10 +127,13 @@ static struct outputs left_by_refused(enum step step)
 static int is_written(enum step step, const struct outputs *to)
 {
     static const char begin[] = "p max 4 6\n", value[] = "s 10\n";
+    static const uint64_t of_arcs[ARCS] = {3, 2, 1, 2, 3}, of_nodes[NODES] = {0, 3, 3, 0};
     switch (step) {
     case FLOWS: return to->flows[0] == 3 && to->flows[ARCS - 1] == 3;
     case RANGE: return to->tails[0] == 1 && to->heads[2] == 4 && to->capacities[1] == 5 && to->flows[1] == 1 && to->closed[2] == 0;
     case SIDE: return to->side[0] == 1 && to->side[NODES - 1] == 0;
+    case ARC_LOSSES: return memcmp(to->of_arcs, of_arcs, sizeof of_arcs) == 0;
+    case NODE_LOSSES: return memcmp(to->of_nodes, of_nodes, sizeof of_nodes) == 0;
     case CHECK: return to->place == 0;
     case PROBLEM: return to->length > sizeof begin && memcmp(to->text, begin, sizeof begin - 1) == 0;
     case SOLUTION: return to->length > sizeof value && memcmp(to->text, value, sizeof value - 1) == 0;

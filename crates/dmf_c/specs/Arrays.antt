@@ -1,6 +1,6 @@
 -- Arrays of C's: those that a call fills, and numbers that it judges.
 -- Public: a public contract says no more than this.
-use Rattle.std.specs.Prelude.{ℕ, ◌≡◌, ◌-◌, ◌<◌, ◌⊎◌, List, length, slice_index, slice_index_or, nat_eq, if◌then◌else◌, MatchBool, MatchOption}
+use Rattle.std.specs.Prelude.{ℕ, ◌≡◌, ◌+◌, ◌-◌, ◌<◌, ◌⊎◌, List, length, slice_index, slice_index_or, nat_eq, if◌then◌else◌, MatchBool, MatchOption}
 use Rattle.dmf_node.specs.Node.{IsNode}
 use Rattle.dmf_state.specs.declared.fault.FlowFault.{FlowFault}
 use Rattle.dmf_state.specs.declared.fault.FlowFault.TheVariants as flow
@@ -12,6 +12,7 @@ use Rattle.dmf_state.specs.Network.{Network}
 use Rattle.dmf_state.specs.NetworkState.{NetworkState}
 use Rattle.dmf_solver.specs.Greatest.{IsGreatest, IsSurpassed}
 use Rattle.dmf_solver.specs.Optimal.{IsOptimal}
+use Rattle.dmf_vital.specs.Loss.{IsLossOfArc, IsLossAt}
 use Rattle.dmf_c.specs.Status.{DMF_OK, DMF_NO_MEMORY, DMF_NOT_GREATEST, DMF_BAD_LENGTH, DMF_OVER_CAPACITY, DMF_NOT_CONSERVED, DMF_NEGATIVE}
 
 -- the answer about an array of this length, which should have that one
@@ -70,3 +71,20 @@ Judges s flows code place =
     MatchBool (nat_eq (length flows) (length s.network.arcs))
     (((code ≡ DMF_NO_MEMORY) × (place ≡ 0)) ⊎ JudgesFlow s flows code place)
     ((code ≡ DMF_BAD_LENGTH) × (place ≡ 0))
+
+-- The array has what is lost without each arc: at index `j - 1`, how much less the greatest value is if arc `j` is closed.
+pub record AreArcLosses (n : Network) (losses : List ℕ) : Type 0 where
+  pub size : length losses ≡ length n.arcs
+  pub each : (k : ℕ) → k < length losses → IsLossOfArc n (k + 1) (slice_index losses k)
+
+-- The array has what is lost without each node: at index `v - 1`, how much less the greatest value is if each arc at node `v` is closed, and
+-- 0 for the source and the sink.
+pub record AreNodeLosses (n : Network) (losses : List ℕ) : Type 0 where
+  pub size : length losses ≡ n.nodes
+  pub each : (k : ℕ) → k < length losses → IsLossAt n (k + 1) (slice_index losses k)
+
+-- The answer to who asks for losses with an array of length `given`, which should have length `wanted`: that the lengths differ; that no flow
+-- has a larger value, or that some flow has; or that memory was refused.
+abbrev pub AnswersLosses : NetworkState → ℕ → ℕ → ℕ → Type 0
+AnswersLosses s given wanted code =
+    MatchBool (nat_eq given wanted) ((code ≡ DMF_NO_MEMORY) ⊎ TellsGreatest s s.flows code) (code ≡ DMF_BAD_LENGTH)

@@ -61,7 +61,7 @@ fn judge_flow(alloc: Global, state: &State, flows: Vec<u64>) -> Judgement
 }
 
 /// 0 if the state's flow is greatest, 9 if some flow has a larger value, 1 if memory is refused.
-fn greatest(alloc: Global, state: &State) -> u32
+pub fn greatest(alloc: Global, state: &State) -> u32
     ensures { (result ≡ DMF_NO_MEMORY) ⊎ TellsGreatest state.now state.now.flows result }
 {
     match is_greatest(alloc, state) {

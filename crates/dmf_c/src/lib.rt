@@ -8,6 +8,7 @@ mod code;
 mod commands;
 mod freeing;
 mod handle;
+mod losses;
 mod opening;
 mod plan;
 mod ranges;

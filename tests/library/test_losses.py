@@ -1,0 +1,204 @@
+"""What each arc and each node of a session's network is worth: on a network that was worked by
+hand, on random ones beside the second implementation and beside closing or shutting in the session
+itself, and for each answer what is written."""
+
+from __future__ import annotations
+
+from collections.abc import Collection
+from contextlib import suppress
+from ctypes import c_uint64
+from dataclasses import replace
+from pathlib import Path
+from random import Random
+
+import pytest
+import random_cases
+from c_library import BAD_LENGTH, CSession, Library, Refused, library_folder
+from oracle.network import Arc, State, solved
+
+NOT_GREATEST = 9
+CALLS = "arc_losses", "node_losses"
+NODES, ARCS = 4, 5
+FEW, MANY, BATCHES = 200, 20_000, 4
+
+
+@pytest.fixture(scope="module")
+def library() -> Library:
+    return Library(library_folder())
+
+
+def example(library: Library) -> CSession:
+    return library.read(Path("examples/a.max").read_bytes())
+
+
+def state(session: CSession) -> tuple[object, ...]:
+    numbers = tuple(session.number(name) for name in ("value", "past", "future", "arcs"))
+    return numbers, session.array("flows"), session.array("capacities"), session.text("problem")
+
+
+def losses(session: CSession) -> tuple[tuple[int, ...], tuple[int, ...]]:
+    """The losses of the arcs and of the nodes. The session is as it was."""
+    before = state(session)
+    found = (
+        session.array("arc_losses"),
+        session.filled("node_losses", c_uint64, session.number("nodes")),
+    )
+    assert state(session) == before
+    return found
+
+
+def test_by_hand(library: Library) -> None:
+    """Of the 5 that arrive, 2 go by arcs 1 and 4, 2 by arcs 2 and 5, and 1 by arcs 1, 3 and 5.
+    Without arc 1 or node 2 only the two of arc 2 are left, and without arc 5 or node 3 those of arc
+    4; without arc 4 arc 5 is full, and without arc 2 arc 1 is; without arc 3 one is lost."""
+    with example(library) as session:
+        session.step("solve")
+        assert losses(session) == ((3, 2, 1, 2, 3), (0, 3, 3, 0))
+        # Three are left, by arc 5. Arc 1 alone can bring them, and arc 2 only two.
+        session.step("close", 4)
+        session.step("solve")
+        assert losses(session) == ((1, 0, 1, 0, 3), (0, 1, 3, 0))
+        session.step("undo", 2)
+        # Node 3 has no arc any more, and two go by arcs 1 and 4.
+        session.step("shut", 3)
+        session.step("solve")
+        assert losses(session) == ((2, 0, 0, 2, 0), (0, 2, 0, 0))
+
+
+def test_a_loop_and_arcs_into_the_source_and_out_of_the_sink(library: Library) -> None:
+    arcs = [(1, 2, 4), (2, 2, 9), (2, 3, 3), (2, 1, 5), (3, 2, 6), (1, 3, 7)]
+    with library.open(3, (1, 3), arcs) as session:
+        session.step("solve")
+        assert losses(session) == ((3, 0, 3, 0, 0, 7), (0, 3, 0))
+
+
+def test_a_network_without_arcs(library: Library) -> None:
+    with library.open(2, (2, 1), []) as session:
+        assert losses(session) == ((), (0, 0))
+
+
+def test_the_largest_capacity(library: Library) -> None:
+    most = 2**64 - 1
+    with library.open(3, (1, 3), [(1, 2, most - 9), (2, 3, 9)]) as session:
+        session.step("solve")
+        assert losses(session) == ((9, 9), (0, 9, 0))
+    with library.open(2, (1, 2), [(1, 2, most)]) as session:
+        session.step("solve")
+        assert losses(session) == ((most,), (0, 0))
+
+
+@pytest.mark.parametrize(("call", "right"), zip(CALLS, (ARCS, NODES)))
+@pytest.mark.parametrize("count", [0, 1, 3, NODES, ARCS, 6])
+def test_an_array_of_another_length(library: Library, call: str, right: int, count: int) -> None:
+    """Of a flow that is not greatest too: the length is judged first."""
+    if count == right:
+        return
+    with example(library) as session:
+        for _ in range(2):
+            before = state(session)
+            with pytest.raises(Refused) as refused:
+                session.filled(call, c_uint64, count)
+            assert refused.value.status == BAD_LENGTH and state(session) == before
+            session.step("solve")
+
+
+@pytest.mark.parametrize(("call", "right"), zip(CALLS, (ARCS, NODES)))
+def test_a_flow_that_is_not_greatest(library: Library, call: str, right: int) -> None:
+    with example(library) as session:
+        for step in None, ("solve",), ("cap", 1, 9), ("cap", 4, 9):
+            if step:
+                session.step(*step)
+            # A larger arc 1 alone brings no more.
+            if step in (("solve",), ("cap", 1, 9)):
+                assert len(session.filled(call, c_uint64, right)) == right
+                continue
+            before = state(session)
+            with pytest.raises(Refused) as refused:
+                session.filled(call, c_uint64, right)
+            assert refused.value.status == NOT_GREATEST and state(session) == before
+
+
+def left(wanted: State, out: Collection[int]) -> int:
+    """The greatest value if these arcs carry nothing, by the second implementation."""
+    arcs = tuple(
+        arc._replace(cap=0) if number in out else arc for number, arc in enumerate(wanted.arcs, 1)
+    )
+    return solved(replace(wanted, arcs=arcs, flows=(0,) * len(arcs))).value()
+
+
+def arcs_at(wanted: State, node: int) -> set[int]:
+    """The numbers of the arcs that leave or enter a node."""
+    return {number for number, arc in enumerate(wanted.arcs, 1) if node in (arc.tail, arc.head)}
+
+
+def by_steps(session: CSession, word: str, count: int) -> list[int]:
+    """How much less the session's value is after each of these steps and a solve."""
+    value, found = session.number("value"), []
+    for number in range(1, count + 1):
+        try:
+            session.step(word, number)
+        except Refused:
+            # The arc is closed.
+            found.append(0)
+            continue
+        session.step("solve")
+        found.append(value - session.number("value"))
+        session.step("undo", 2)
+    return found
+
+
+def changed(session: CSession, random: Random, wanted: State) -> None:
+    """Make some changes, and solve."""
+    for _ in range(random.randrange(5)):
+        arc, node = random.randint(1, len(wanted.arcs) or 1), random.randint(1, wanted.nodes)
+        steps: list[tuple[str, list[int]]] = [
+            ("close", [arc]),
+            ("shut", [node]),
+            ("cap", [arc, random.randrange(9)]),
+            ("add", [node, random.randint(1, wanted.nodes), random.randrange(9)]),
+            ("solve", []),
+            ("undo", [1]),
+        ]
+        word, numbers = random.choice(steps)
+        with suppress(Refused):
+            session.step(word, *numbers)
+    session.step("solve")
+
+
+def present(session: CSession, wanted: State) -> State:
+    """The present network, read arc by arc."""
+    count = session.number("arcs")
+    tails, heads, capacities, flows, closed = session.arc_range(1, count, [count] * 5)
+    arcs = tuple(map(Arc, tails, heads, capacities, [mark == 1 for mark in closed]))
+    return replace(wanted, arcs=arcs, flows=flows)
+
+
+@pytest.mark.seconds(3)
+@pytest.mark.parametrize("batch", range(BATCHES))
+def test_random_sessions(library: Library, batch: int, request: pytest.FixtureRequest) -> None:
+    random = Random(f"losses {request.config.getoption('--seed')} {batch}")
+    count = (MANY if request.config.getoption("--long") else FEW) // BATCHES
+    some_lost = 0
+    for _ in range(count):
+        wanted = random_cases.fitting(random_cases.network(random, 8))
+        if wanted.source == wanted.sink:
+            continue
+        ends = wanted.source, wanted.sink
+        with library.open(wanted.nodes, ends, [arc[:3] for arc in wanted.arcs]) as session:
+            changed(session, random, wanted)
+            now = present(session, wanted)
+            value = session.number("value")
+            of_arcs, of_nodes = losses(session)
+            assert list(of_arcs) == [
+                value - left(now, {arc}) for arc in range(1, len(now.arcs) + 1)
+            ]
+            assert list(of_nodes) == [
+                0 if node in ends else value - left(now, arcs_at(now, node))
+                for node in range(1, now.nodes + 1)
+            ]
+            assert by_steps(session, "close", len(now.arcs)) == list(of_arcs)
+            shut = by_steps(session, "shut", now.nodes)
+            shut[ends[0] - 1] = shut[ends[1] - 1] = 0
+            assert shut == list(of_nodes)
+            some_lost += any(of_nodes)
+    assert some_lost > count // 4
