@@ -26,6 +26,7 @@ BOTH = {
     "test_sweeps_from_scratch",
     "test_tried",
     "test_unbounded_arcs",
+    "test_vital_arcs",
 }
 
 

@@ -177,11 +177,10 @@ def test_arcs_without_a_bound() -> None:
     assert list(dmf.vital({"a": {"b": most}, "b": {"c": None}}, "a", "c").losses) == [most, most]
 
 
-def test_a_library_runs_the_program(by_library: None) -> None:
-    with pipes() as network:
-        assert list(network.vital().values) == [2, 3, 4, 3, 2]
-    with pipes(program=BUILT) as network:
-        assert list(network.vital().values) == [2, 3, 4, 3, 2]
+def test_each_way_ends() -> None:
+    for program in None, BUILT:
+        with pipes(program=program) as network:
+            assert list(network.vital().values) == [2, 3, 4, 3, 2]
     with pytest.raises(dmf.SessionEnded, match="^the session was ended$"):
         network.vital()
 

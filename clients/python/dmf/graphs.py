@@ -23,7 +23,7 @@ from .session.base import (
     problem_pieces,
     where,
 )
-from .session.fresh import CUT, FLOW, VALUE, Solved, solved
+from .session.fresh import CUT, FLOW, VALUE, Solved, solved, values_without
 from .session.runners import chosen, program_of
 from .text.lexical import AMOUNTS, LARGEST
 from .unbounded_arcs import BoundlessFlow, flows_of, solve_unbounded
@@ -356,7 +356,12 @@ def vital(
     state = given.state
     problem = _bounded(given, program) if given.unbounded else state.problem()
     try:
-        return VitalArcs.of(state.every_arc(), problem, program, reader.measure, top)
+        return VitalArcs.of(
+            state.every_arc(),
+            lambda: values_without(problem, program_of(program)),
+            reader.measure,
+            top,
+        )
     except Refused as refused:
         raise where(refused, state.handle) from None
 

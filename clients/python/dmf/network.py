@@ -344,10 +344,10 @@ class Network(ChangeableNetwork[Node]):
     def vital(self, top: int | None = None) -> VitalArcs[Node]:
         """Find for each arc the greatest value without it.
 
-        The program finds all of them from one greatest flow, in a fraction of the time that it
-        takes to close each arc and solve. It reads the network as it is now, with all changes; the
-        network stays as it is, and its flow need not be greatest. The library does not have this,
-        so a program is needed.
+        All of them are found from one greatest flow, in a fraction of the time that it takes to
+        close each arc and solve. The network is read as it is now, with all changes; it stays as it
+        is, and its flow need not be greatest. If the library runs the session and the flow is
+        greatest, the session finds them; otherwise a program is needed.
 
         Parameters
         ----------
@@ -364,7 +364,7 @@ class Network(ChangeableNetwork[Node]):
         Raises
         ------
         NoProgram
-            If no program is found that fits.
+            If a program is needed, and none is found that fits.
         NotANumber
             If `top` is not a whole number.
 
@@ -381,10 +381,7 @@ class Network(ChangeableNetwork[Node]):
         from .vital_arcs import VitalArcs
 
         self._ready()
-        kept = self._kept.copy()
-        return VitalArcs.of(
-            self._every_arc(), kept.problem(), self._session.program, self._measure, top
-        )
+        return VitalArcs.of(self._every_arc(), self._values_without, self._measure, top)
 
     def _every_arc(self) -> OpenArcs[Node]:
         """Return all arcs that callers see, including closed ones."""

@@ -18,8 +18,8 @@ from .columns import Node
 from .errors import Error, NoSuchArc, SessionEnded, UsedByTwoProcesses, UsedByTwoThreads
 from .history import Command
 from .rows import whole
-from .session.base import Session, Told
-from .session.runners import start
+from .session.base import Session, Told, ValuesWithout
+from .session.runners import program_of, start
 from .solution import Flows, Solution
 from .state import NetworkState
 from .text.lexical import AMOUNTS
@@ -139,6 +139,20 @@ class SessionHolder(Generic[Node]):
         """Return the source side of the smallest minimum cut, as the numbers of its nodes. Raises
         `FlowIsNotGreatest`."""
         return self._session.cut()[1]
+
+    def _values_without(self) -> ValuesWithout:
+        """Return the greatest value without each arc, from the session if it finds that, else from
+        the program."""
+        found = self._asked_values_without()
+        if found is not None:
+            return found
+        from .session.fresh import values_without
+
+        return values_without(self._kept.copy().problem(), program_of(self._session.program))
+
+    @exclusive
+    def _asked_values_without(self) -> ValuesWithout | None:
+        return self._session.values_without()
 
     @exclusive
     def _flow_of_each(self) -> array[int]:

@@ -3,7 +3,7 @@
 from __future__ import annotations
 
 from array import array
-from collections.abc import Iterator, Sequence
+from collections.abc import Callable, Iterator, Sequence
 from dataclasses import dataclass
 from heapq import nsmallest
 from typing import TYPE_CHECKING, Any, Generic
@@ -11,9 +11,7 @@ from typing import TYPE_CHECKING, Any, Generic
 from .arcs import Arc, OpenArcs
 from .columns import Node
 from .rows import whole
-from .session.base import ProblemColumns, Program
-from .session.fresh import values_without
-from .session.runners import program_of
+from .session.base import ValuesWithout
 from .text.lexical import AMOUNTS
 
 if TYPE_CHECKING:
@@ -48,15 +46,14 @@ class VitalArcs(Generic[Node]):
     def of(
         cls,
         arcs: OpenArcs[Node],
-        problem: ProblemColumns,
-        program: Program,
+        find: Callable[[], ValuesWithout],
         measure: Measure | None,
         top: int | None,
     ) -> VitalArcs[Node]:
-        """Run the program on a problem, and return what it finds about these arcs of it: about the
-        `top` of them whose loss costs most, if that is given."""
+        """Return what `find` finds about these arcs: about the `top` of them whose loss costs most,
+        if that is given."""
         most = None if top is None else whole(top, "vital", "a number of arcs")
-        value, without = values_without(problem, program_of(program))
+        value, without = find()
         values = arcs.chosen(without)
         losses = array(AMOUNTS, (value - left for left in values))
         chosen: Sequence[Arc[Node]] = arcs

@@ -11,8 +11,8 @@ from dataclasses import dataclass
 from typing import NamedTuple
 
 from ..errors import Error, FlowIsNotGreatest
-from ..session.base import Program
-from ..session.fresh import CUT, Solved, ValuesWithout, solved
+from ..session.base import Program, ValuesWithout
+from ..session.fresh import CUT, Solved, solved
 from ..session.runners import program_of
 from .live_network import LiveNetwork
 

@@ -10,7 +10,8 @@ from heapq import nsmallest
 from typing import NamedTuple
 
 from ..quantity import Quantity
-from ..session.fresh import ValuesWithout, values_without
+from ..session.base import ValuesWithout
+from ..session.fresh import values_without
 from ..session.runners import program_of
 from .steps import DeskFault
 from .workspace import Desk

@@ -54,6 +54,13 @@ class ProblemColumns(NamedTuple):
         return self.tails, self.heads, self.capacities
 
 
+class ValuesWithout(NamedTuple):
+    """The greatest value, and for each arc the greatest value without it, arc 1 first."""
+
+    value: int
+    without: array[int]
+
+
 class Runner(Protocol):
     """The library, which begins sessions in this process."""
 
@@ -131,6 +138,11 @@ class Session:
         """Return the capacity of the smallest minimum cut and the node numbers of its source side,
         in ascending order."""
         raise NotImplementedError
+
+    def values_without(self) -> ValuesWithout | None:
+        """Return the greatest value without each arc, or None if only a run of its own finds it:
+        the session runs in the program, or its flow is not a maximum flow."""
+        return None
 
     def problem(self) -> bytes:
         """Return the text of the problem of the open arcs."""

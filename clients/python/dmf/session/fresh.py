@@ -16,6 +16,7 @@ from .base import (
     ProblemColumns,
     Session,
     Told,
+    ValuesWithout,
     Way,
     command_line,
     problem_pieces,
@@ -37,13 +38,6 @@ class Solved(NamedTuple):
     value: int
     flows: Told = b""
     side: Sequence[int] = ()
-
-
-class ValuesWithout(NamedTuple):
-    """The greatest value, and for each arc the greatest value without it, arc 1 first."""
-
-    value: int
-    without: array[int]
 
 
 def solved(

@@ -6,6 +6,7 @@ from __future__ import annotations
 import contextlib
 import ctypes
 import functools
+import math
 from array import array
 from collections.abc import Callable, Iterator, Sequence
 from itertools import compress, count
@@ -17,6 +18,7 @@ from ..text.lexical import AMOUNTS, display
 from .base import (
     ProblemColumns,
     Session,
+    ValuesWithout,
     command_line,
     judged,
     problem_pieces,
@@ -29,8 +31,9 @@ from .worker_threads import Given, Handle, Job
 # For networks with at most MOST_AT_ONCE arcs, all calls run in the caller's thread, where Ctrl-C
 # has to wait for the call to end, which takes milliseconds. For larger ones they run in another
 # thread, which Ctrl-C does not reach, except for steps over at most MOST_STEPS states, each of
-# which looks at each arc only a few times.
-MOST_AT_ONCE, MOST_STEPS = 20_000, 4
+# which looks at each arc only a few times. What is lost without each arc takes longer to find, so
+# there the other thread begins at MOST_LOST_AT_ONCE arcs.
+MOST_AT_ONCE, MOST_LOST_AT_ONCE, MOST_STEPS = 20_000, 1_000, 4
 
 OK, NO_MEMORY, NOT_GREATEST, BAD_LENGTH, BAD_TEXT = 0, 1, 9, 10, 12
 # The reasons for a refusal in the program's words, by their numbers in dmf.h.
@@ -94,6 +97,7 @@ class Library:
         self.arcs = self._call("dmf_session_arcs", [_POINTER], _SIZE)
         self.flows = self._call("dmf_session_flows", [_POINTER, _POINTER, _SIZE])
         self.side = self._call("dmf_session_side", [_POINTER, _POINTER, _SIZE])
+        self.arc_losses = self._call("dmf_session_arc_losses", [_POINTER, _POINTER, _SIZE])
         self.problem = self._call("dmf_session_problem", [_POINTER, _POINTER, _SIZE, _POINTER])
 
     def _call(self, name: str, arguments: list[Any], result: Any = _WORD) -> Callable[..., int]:
@@ -199,9 +203,11 @@ class LibrarySession(Session):
             self.why_ended = why
             self.end()
 
-    def _do(self, work: Callable[..., Given], *words: Any, is_short: bool = False) -> Given:
-        """Return what calls at the session's address return. `is_short` says that they end soon,
-        however large the network is."""
+    def _do(
+        self, work: Callable[..., Given], *words: Any, most_at_once: float | None = None
+    ) -> Given:
+        """Return what calls at the session's address return. They run in the caller's thread if the
+        network has at most `most_at_once` arcs, or MOST_AT_ONCE."""
         if self._why_broken:
             self.kill(self._why_broken)
         held = next(iter(self._held), None)
@@ -209,7 +215,8 @@ class LibrarySession(Session):
             raise self.ended()
         self.asked_count += 1
         try:
-            is_beside = self._arc_count > MOST_AT_ONCE and not is_short
+            most = MOST_AT_ONCE if most_at_once is None else most_at_once
+            is_beside = self._arc_count > most
             given = self._do_beside(work, held, words) if is_beside else work(held, *words)
         except ValueError as error:
             self.kill("the session was ended, since dmf's answer was not understood")
@@ -243,7 +250,8 @@ class LibrarySession(Session):
 
     def step(self, command: Command, at: object = None) -> int:
         is_short = command[0] in STEPS and command[1] <= MOST_STEPS
-        return self._do(self._carried_out, command, at, is_short=is_short)
+        most = math.inf if is_short else None
+        return self._do(self._carried_out, command, at, most_at_once=most)
 
     def carry_out(self, commands: Sequence[Command]) -> int:
         return self._do(self._carried_on, commands) if commands else 0
@@ -263,7 +271,7 @@ class LibrarySession(Session):
         return value
 
     def flows(self, value: int, open_count: int) -> array[int]:
-        return self._do(self._flows, value, is_short=True)
+        return self._do(self._flows, value, most_at_once=math.inf)
 
     def _flows(self, held: Handle, value: int) -> array[int]:
         judged(self._library.value(held.address), value)
@@ -281,6 +289,19 @@ class LibrarySession(Session):
             raise refused(REASONS[status], "print cut", None)
         # The cut has the capacity of the value, as each minimum cut.
         return self._library.value(held.address), list(compress(count(1), marks))
+
+    def values_without(self) -> ValuesWithout | None:
+        return self._do(self._values_without, most_at_once=MOST_LOST_AT_ONCE)
+
+    def _values_without(self, held: Handle) -> ValuesWithout | None:
+        losses = array(AMOUNTS, [0]) * self._library.arcs(held.address)
+        status = self._library.arc_losses(held.address, _place(losses), len(losses))
+        if status == NOT_GREATEST:
+            return None
+        if status != OK:
+            raise refused_line(REASONS[status], None)
+        value = self._library.value(held.address)
+        return ValuesWithout(value, array(AMOUNTS, (value - loss for loss in losses)))
 
     def problem(self) -> bytes:
         return self._do(self._problem)

@@ -1,0 +1,97 @@
+"""What is left of the greatest value without each arc, by the C library in this process: when it is
+asked, beside the program, and how a call ends that is broken off or refused."""
+
+from __future__ import annotations
+
+import threading
+from random import Random
+from typing import Any
+
+import pytest
+from c_library import library_file
+from client_shared import BUILT, dmf, interrupted_soon, pipes
+from dmf.session import library as loaded
+from dmf.session.fresh import values_without
+
+SECONDS = 60
+# The values without each of the pipes, worked by hand.
+LEFT = [2, 3, 4, 3, 2]
+pytestmark = pytest.mark.usefixtures("by_library")
+
+
+@pytest.fixture(params=[0, 10**9], ids=["beside", "at once"])
+def bound(request: pytest.FixtureRequest, monkeypatch: pytest.MonkeyPatch) -> int:
+    """The most arcs of a network whose losses are not found beside."""
+    most = int(request.param)
+    monkeypatch.setattr(loaded, "MOST_LOST_AT_ONCE", most)
+    return most
+
+
+def test_no_program_is_needed(monkeypatch: pytest.MonkeyPatch, bound: int) -> None:
+    """Only where the flow is not greatest; then the program is told the network as it is now."""
+    monkeypatch.setenv("DMF", "/nowhere")
+    with pipes() as network:
+        with pytest.raises(dmf.NoProgram):
+            network.vital()
+        plan = network.solve()
+        assert list(network.vital().values) == LEFT
+        network.add("lake", "sea", 1)
+        with pytest.raises(dmf.NoProgram):
+            network.vital()
+        with pytest.raises(dmf.NotANumber):
+            network.vital(-1)
+        monkeypatch.setenv("DMF", BUILT)
+        # The new pipe carries nothing yet.
+        found = network.vital()
+        assert (network.value, found.value, list(found.losses)) == (5, 6, [3, 2, 1, 2, 3, 1])
+        network.undo()
+        assert network.flow() == plan and list(network.vital().values) == LEFT
+
+
+@pytest.mark.parametrize("seed", range(10))
+def test_beside_the_program(seed: int, bound: int) -> None:
+    random = Random(f"losses {seed}")
+    rows = [(random.randrange(30), random.randrange(30), random.randrange(9)) for _ in range(200)]
+    with dmf.Network(rows, 0, 29, nodes=range(30)) as network:
+        network.solve()
+        network.close(network.arcs[random.randrange(200)])
+        network.add(0, 29, random.randrange(9))
+        network.shut(random.randrange(1, 29))
+        network.solve()
+        wanted = values_without(network._kept.copy().problem(), BUILT)
+        found = network.vital()
+        assert (found.value, list(found.values)) == (wanted.value, list(wanted.without))
+        assert any(found.losses) and len(found) == 201
+
+
+def test_broken_off(monkeypatch: pytest.MonkeyPatch) -> None:
+    """Ctrl-C leaves the call alone, and the network as it was; the next call begins a session."""
+    monkeypatch.setattr(loaded, "MOST_LOST_AT_ONCE", 0)
+    library: Any = loaded.load(library_file())
+    losses, begun, until = library.arc_losses, threading.Event(), threading.Event()
+
+    def slow(*words: int) -> int:
+        if not begun.is_set():
+            begun.set()
+            until.wait(SECONDS)
+        return int(losses(*words))
+
+    monkeypatch.setattr(library, "arc_losses", slow)
+    with pipes() as network:
+        plan = network.solve()
+        with pytest.raises(KeyboardInterrupt), interrupted_soon(0.3):
+            network.vital()
+        assert begun.is_set() and (network.value, network.flow() == plan) == (5, True)
+        assert list(network.vital().values) == LEFT
+        until.set()
+
+
+def test_want_of_memory(monkeypatch: pytest.MonkeyPatch, bound: int) -> None:
+    with pipes() as network:
+        network.solve()
+        with monkeypatch.context() as patched:
+            library = loaded.load(library_file())
+            patched.setattr(library, "arc_losses", lambda *_: loaded.NO_MEMORY)
+            with pytest.raises(dmf.NoMemory, match="^no memory$"):
+                network.vital()
+        assert list(network.vital().values) == LEFT and network.value == 5
