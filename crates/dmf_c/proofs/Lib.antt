@@ -5,3 +5,4 @@ pub mod Judging
 pub mod Answered
 pub mod Siding
 pub mod Fitting
+pub mod Lost
