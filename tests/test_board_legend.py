@@ -69,9 +69,13 @@ def colour_by(page: Page, words: str) -> None:
     """Chooses what the picture is coloured by."""
     from selenium.webdriver.support.select import Select
 
-    field = page.driver.find_element("xpath", "//label[starts-with(., 'Colour')]//select")
-    chosen: Any = Select(field)
-    chosen.select_by_visible_text(words)
+    place = "//label[starts-with(., 'Colour')]//select"
+
+    def choose(field: Any) -> None:
+        chosen: Any = Select(field)
+        chosen.select_by_visible_text(words)
+
+    page.act_on(lambda: page.driver.find_element("xpath", place), choose)
 
 
 def shade(row: Any) -> str:

@@ -2,6 +2,7 @@
 
 from __future__ import annotations
 
+import contextlib
 import csv
 import io
 import os
@@ -9,6 +10,7 @@ import signal
 import subprocess
 import sys
 import time
+from collections.abc import Iterator
 from pathlib import Path
 
 import pytest
@@ -281,13 +283,20 @@ def programs_of(process: int) -> list[int]:
     return [int(child) for task in tasks for child in task.read_text().split()]
 
 
+def pieces(terminal: int) -> Iterator[str]:
+    """Yields what was written on a terminal that nobody writes on any more: its end is an error."""
+    with contextlib.suppress(OSError):
+        while piece := os.read(terminal, 1 << 16):
+            yield piece.decode()
+
+
 def test_a_bar() -> None:
     """On a terminal the bar tells how many cases were tried of how many; else nothing is told."""
     ours, theirs = os.openpty()
     command = [sys.executable, f"{ROOT}/tools/dmf-sweep", "net.max", "--close-each"]
     ran = subprocess.run(command, stdout=subprocess.PIPE, stderr=theirs, text=True, timeout=60)
     os.close(theirs)
-    seen = os.read(ours, 1 << 16).decode()
+    seen = "".join(pieces(ours))
     os.close(ours)
     assert (ran.returncode, list(csv.reader(io.StringIO(ran.stdout)))[1:]) == (0, CLOSED)
     assert "5/5" in seen and "case" in seen

@@ -85,14 +85,15 @@ export function form(fields, word, done) {
 }
 
 /**
- * Fills a drop-down list with these values and their words, and keeps its selection if that is still there.
+ * Fills a drop-down list with these values and their words, and keeps its selection if that is still there. Options that it has already
+ * stay, so that a list which is open stays as it is.
  * @param {string} id
  * @param {string[][]} pairs
  * @param {string} usual
  */
 export function offer(id, pairs, usual) {
   const list = /** @type {HTMLSelectElement} */ (at(id)), before = list.value;
-  list.replaceChildren(...pairs.map(([value, words]) => make("option", words, { value })));
+  replaceAlike(list, pairs.map(([value, words]) => make("option", words, { value })));
   list.value = pairs.some(([value]) => value === before) ? before : usual;
 }
 
