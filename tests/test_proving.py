@@ -86,6 +86,21 @@ def proved(root: Path, environment: dict[str, str]) -> tuple[int, list[str]]:
     return ran.returncode, ran.stdout.splitlines()
 
 
+def test_a_toolchain_that_keeps_no_verdicts(tmp_path: Path) -> None:
+    """If `rt` prints its usage because it does not know --anew, it is called without; but not if it
+    knows the option and fails."""
+    environment = tree(tmp_path, "2 passed, 0 failed\n")
+    rt = f"""#!/bin/sh
+test "$*" != "ci --anew" || {{ echo "usage: rt new FOLDER" >&2; exit 2; }}
+test "$*" = ci && cat {tmp_path}/said
+"""
+    (tmp_path / "bin/rt").write_text(rt)
+    assert proved(tmp_path, environment)[1][-1] == "2 passed, 0 failed"
+    (tmp_path / "bin/rt").write_text(rt.replace("usage: rt new FOLDER", "rt: out of memory"))
+    ended = ["rt: out of memory", "prove_crates.py: rt ended without a count"]
+    assert proved(tmp_path, environment) == (1, [*ended, "0 passed, 1 failed"])
+
+
 @pytest.mark.parametrize(
     ("said", "goal"),
     [

@@ -4,11 +4,12 @@ with a stricter count of the edits.
 
     python3 tools/prove_crates.py
 
-The output of `rt` is passed on. Then follow lines that say when each crate was proved, in minutes
-and seconds from the start, and a line for each edit of crates/*/must-fail/: the goal at which the
-prover refused it, or why it shows nothing (tools/must_fail.py). `rt` itself accepts edits that
-cannot be made, or that are refused because of a limit or a lost name. Here these fail, and so does
-an edit that was not tried. The last line is 'N passed, M failed', and the status is 0 only if
+A toolchain that does not know `--anew` keeps no verdicts, and proves everything from scratch by
+`rt ci`. The output of `rt` is passed on. Then follow lines that say when each crate was proved, in
+minutes and seconds from the start, and a line for each edit of crates/*/must-fail/: the goal at
+which the prover refused it, or why it shows nothing (tools/must_fail.py). `rt` itself accepts edits
+that cannot be made, or that are refused because of a limit or a lost name. Here these fail, and so
+does an edit that was not tried. The last line is 'N passed, M failed', and the status is 0 only if
 nothing failed.
 """
 
@@ -23,7 +24,9 @@ from pathlib import Path
 from must_fail import KEPT, REFUSED, Verdict, edits_of, judge_all, name_of
 
 ROOT = Path(__file__).resolve().parents[1]
-COMMAND = ["rt", "ci", "--anew"]
+COMMAND = ["rt", "ci"]
+# It makes `rt` ignore the verdicts that it keeps. A toolchain without the option prints its usage.
+ANEW, USAGE = "--anew", "usage: rt "
 COUNT = re.compile(r"^(\d+) passed, (\d+) failed", re.MULTILINE)
 # The edits that `rt` counts as passed, and those that it counts as failed.
 PASSED = re.compile(rf"^rt: must-fail \S+: {REFUSED}", re.MULTILINE)
@@ -60,6 +63,13 @@ def run(command: list[str]) -> tuple[int, str]:
     return running.returncode, "".join(said)
 
 
+def prove() -> tuple[int, str]:
+    """Prove everything from scratch, and return the status and the output of `rt`."""
+    status, said = run([*COMMAND, ANEW])
+    is_unknown = status != 0 and said.startswith(USAGE) and not COUNT.search(said)
+    return run(COMMAND) if is_unknown else (status, said)
+
+
 def verdicts(said: str) -> list[Verdict]:
     """Return the verdict on each edit in the checkout."""
     found = judge_all(said)
@@ -84,7 +94,7 @@ def count(status: int, said: str, judged: list[Verdict]) -> tuple[int, int]:
 
 
 def main() -> int:
-    status, said = run(COMMAND)
+    status, said = prove()
     judged = verdicts(said)
     for verdict in judged:
         print(f"edit {verdict}")

@@ -139,18 +139,25 @@ def machine(tmp_path: Path) -> Machine:
     return it
 
 
-@pytest.mark.seconds(60)
-def test_a_forged_store(machine: Machine) -> None:
-    """The store says of a wrong body what was proved of the right one: `rt ci` believes it, and
-    ./prove does not look."""
-    status, lines = machine.call("rt", "ci")
-    assert (status, lines[-1]) == (0, "1 passed, 0 failed"), lines
-    machine.write_body(WRONG)
+def forge(machine: Machine) -> None:
+    """Makes the store say of the present body what was proved of the one before it, so that the
+    toolchain believes it."""
     status, lines = machine.call(sys.executable, "-c", FORGE, str(machine.kit), str(machine.root))
     assert status == 0, lines
     status, lines = machine.call("rt", "ci")
     assert (status, lines[-1]) == (0, "1 passed, 0 failed"), lines
     assert any(line.startswith("rt: low is kept: ") for line in lines)
+
+
+@pytest.mark.seconds(60)
+def test_a_forged_store(machine: Machine) -> None:
+    """The store says of a wrong body what was proved of the right one: `rt ci` believes it, and
+    ./prove does not look. A toolchain without --anew has no store, and nothing to forge."""
+    status, lines = machine.call("rt", "ci")
+    assert (status, lines[-1]) == (0, "1 passed, 0 failed"), lines
+    machine.write_body(WRONG)
+    if "--anew" in (machine.kit / "bin/rt").read_text():
+        forge(machine)
     status, lines = machine.call("./prove")
     # The library, its comparison and the test pass; the crate fails, and so does a log in which
     # nothing is proved.
