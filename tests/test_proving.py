@@ -86,6 +86,13 @@ def proved(root: Path, environment: dict[str, str]) -> tuple[int, list[str]]:
     return ran.returncode, ran.stdout.splitlines()
 
 
+@pytest.mark.parametrize("count", ["rt: FAILED: low/a.edit\n1 passed, 1", "1 passed, 0"])
+def test_an_edit_fails_once(tmp_path: Path, count: str) -> None:
+    """An edit that cannot be made is one failure, whether or not `rt` counts it as one."""
+    environment = tree(tmp_path, f"rt: must-fail low/a.edit: {OLD}\n{count} failed\n", "a")
+    assert proved(tmp_path, environment)[1][-1] == "1 passed, 1 failed"
+
+
 def test_a_toolchain_that_keeps_no_verdicts(tmp_path: Path) -> None:
     """If `rt` prints its usage because it does not know --anew, it is called without; but not if it
     knows the option and fails."""

@@ -28,9 +28,11 @@ COMMAND = ["rt", "ci"]
 # It makes `rt` ignore the verdicts that it keeps. A toolchain without the option prints its usage.
 ANEW, USAGE = "--anew", "usage: rt "
 COUNT = re.compile(r"^(\d+) passed, (\d+) failed", re.MULTILINE)
-# The edits that `rt` counts as passed, and those that it counts as failed.
+# The edits that `rt` counts as passed, and those that it counts as failed. Some toolchains count an
+# edit that cannot be made as failed, too, and name it in the last line before the count.
 PASSED = re.compile(rf"^rt: must-fail \S+: {REFUSED}", re.MULTILINE)
-FAILED = re.compile(r"^rt: must-fail \S+: NOT (?:REFUSED|TRIED)", re.MULTILINE)
+FAILED = re.compile(r"^rt: must-fail (\S+): NOT (?:REFUSED|TRIED)", re.MULTILINE)
+NAMED = re.compile(r"^rt: FAILED: (.*)$", re.MULTILINE)
 # Lines that show where the time goes.
 STEP = re.compile(
     r"^rt: \w+(?:: its tests are)? (?:NOT )?(?:PROVED|proved)$"
@@ -79,6 +81,12 @@ def verdicts(said: str) -> list[Verdict]:
     return [found.get(name, Verdict(name, "", "it was not tried")) for name in names]
 
 
+def failed_edits(said: str) -> set[str]:
+    """Return the edits that `rt` counts as failed."""
+    named = " ".join(NAMED.findall(said)).split()
+    return {*FAILED.findall(said), *(name for name in named if name.endswith(".edit"))}
+
+
 def count(status: int, said: str, judged: list[Verdict]) -> tuple[int, int]:
     """Return what passed and what failed: the proofs and runs as `rt` counts them, and the edits by
     their verdicts."""
@@ -88,7 +96,7 @@ def count(status: int, said: str, judged: list[Verdict]) -> tuple[int, int]:
     passed, failed = map(int, counted[-1]) if counted else (0, 1)
     refused = sum(bool(verdict.goal) for verdict in judged)
     passed = max(0, passed - len(PASSED.findall(said))) + refused
-    failed = max(0, failed - len(FAILED.findall(said))) + len(judged) - refused
+    failed = max(0, failed - len(failed_edits(said))) + len(judged) - refused
     # A status other than 0 without a counted failure is one failure.
     return passed, failed or int(status != 0)
 
