@@ -66,7 +66,7 @@ def run(command: list[str]) -> tuple[int, str]:
 
 
 def prove() -> tuple[int, str]:
-    """Prove everything from scratch, and return the status and the output of `rt`."""
+    """Run `rt` to prove everything from scratch, and return its status and its output."""
     status, said = run([*COMMAND, ANEW])
     is_unknown = status != 0 and said.startswith(USAGE) and not COUNT.search(said)
     return run(COMMAND) if is_unknown else (status, said)
