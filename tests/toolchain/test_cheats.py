@@ -151,12 +151,22 @@ def forge(machine: Machine) -> None:
 
 @pytest.mark.seconds(60)
 def test_a_forged_store(machine: Machine) -> None:
-    """The store says of a wrong body what was proved of the right one: `rt ci` believes it, and
-    ./prove does not look. A toolchain without --anew has no store, and nothing to forge."""
+    """What the toolchain keeps says of a wrong body what was proved of the right one: `rt ci`
+    believes its store, and ./prove looks neither there nor into out/. A toolchain that keeps no
+    store leaves only out/ to be forged: there the proof of the right body is newer than the wrong
+    one."""
+    store = machine.kit.parent / "rattle-kept"
+    assert machine.call("sh", "-c", "cd crates/low && rt check && rt lib")[0] == 0
     status, lines = machine.call("rt", "ci")
     assert (status, lines[-1]) == (0, "1 passed, 0 failed"), lines
+    code = machine.root / "crates/low/src/lib.rt"
+    before = code.stat()
     machine.write_body(WRONG)
-    if "--anew" in (machine.kit / "bin/rt").read_text():
+    os.utime(code, ns=(before.st_atime_ns, before.st_mtime_ns))
+    made = [*(machine.root / "crates/low/out").iterdir()]
+    assert made and all(it.stat().st_mtime_ns > code.stat().st_mtime_ns for it in made)
+    assert store.is_dir() == ("STORE" in (machine.kit / "bin/rt").read_text())
+    if store.is_dir():
         forge(machine)
     status, lines = machine.call("./prove")
     # The library, its comparison and the test pass; the crate fails, and so does a log in which
