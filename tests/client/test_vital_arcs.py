@@ -1,5 +1,5 @@
-"""What is left of the greatest value without each arc, beside networkx on the network without that
-arc, and beside closing each arc and solving."""
+"""What is left of the greatest value without each arc or node, beside networkx on the network
+without it, and beside closing each arc, or shutting each node, and solving."""
 
 from __future__ import annotations
 
@@ -62,13 +62,23 @@ def changed(network: dmf.Network[int], random: Random) -> None:
             network.undo()
 
 
-def by_solves(network: dmf.Network[int]) -> dict[int, int]:
+def by_solves(network: dmf.Network[Any]) -> dict[int, Any]:
     """The greatest value without each open arc, by closing it and solving."""
     found = {}
     for arc in network.arcs:
         with network.try_out():
             network.close(arc)
             found[arc.number] = network.solve().value
+    return found
+
+
+def by_shutting(network: dmf.Network[Any], nodes: Iterable[Any]) -> list[Any]:
+    """The greatest value without each of these nodes, by shutting it and solving."""
+    found = []
+    for node in nodes:
+        with network.try_out():
+            network.shut(node)
+            found.append(network.solve().value)
     return found
 
 
@@ -95,6 +105,7 @@ def test_networks(seed: int) -> None:
         ordered = sorted(found, key=lambda row: (-row[2], row[0].number))
         for top in 0, 1, 3, len(found), 10**6:
             assert list(network.vital(top=top)) == ordered[:top]
+        judge_nodes(network, opened)
     if not rows:
         return
     frame = pandas.DataFrame(rows, columns=["tail", "head", "capacity"])
@@ -105,6 +116,21 @@ def test_networks(seed: int) -> None:
         for graph in rows, frame:
             once = dmf.vital(graph, 0, COUNT - 1)
             assert (once.value, list(once.values)) == (greatest(given), wanted_values)
+
+
+def judge_nodes(network: dmf.Network[int], opened: list[Row]) -> None:
+    """Compare the nodes of a network with these open arcs, among which are loops."""
+    before = (network.value, list(network.flow().values()), network.problem())
+    found = network.vital_nodes()
+    assert (network.value, list(network.flow().values()), network.problem()) == before
+    value, inner = greatest(opened), [*range(1, COUNT - 1)]
+    left = [greatest(row for row in opened if node not in row[1:3]) for node in inner]
+    assert (found.value, found.nodes, list(found.values)) == (value, inner, left)
+    assert list(found.losses) == [value - it for it in left]
+    assert by_shutting(network, inner) == left
+    ordered = sorted(found, key=lambda row: (-row[2], row[0]))
+    for top in 0, 1, len(found), 10**6:
+        assert list(network.vital_nodes(top=top)) == ordered[:top]
 
 
 @pytest.mark.parametrize("seed", range(20))
@@ -141,6 +167,9 @@ def test_decimals() -> None:
             (3, Decimal("0.25")),
             (1, Decimal("0.15")),
         ]
+        network.add("a", "c", Decimal("0.07"))
+        assert list(network.vital_nodes()) == [("b", Decimal("0.07"), Decimal("0.25"))]
+        assert type(network.vital_nodes().value) is Decimal
 
 
 def test_tables(tmp_path: Path) -> None:
@@ -155,6 +184,36 @@ def test_tables(tmp_path: Path) -> None:
         assert [(arc.key, loss) for arc, _, loss in table.vital(top=1)] == [("out", 6)]
         table.close("two")
         assert table.vital().losses == [Decimal("4.5"), 0, Decimal("4.5")]
+
+
+def test_places_of_tables(tmp_path: Path) -> None:
+    """Each place of several sources or sinks is one of the nodes, with what it gives or takes; a
+    place with a limit is one node, and what is the source or the sink alone is none."""
+    path = tmp_path / "pipes.csv"
+    path.write_text("from,to,capacity,name\nA,M,4.5,one\nB,M,3,two\nM,Z,9,out\nB,Z,1.5,by\n")
+    limits = {"M": 6}
+    for asked in {"source": {"A": 4, "B": None}, "sink": "Z"}, {"source": ["A", "B"], "sink": "Z"}:
+        with dmf.read_table(path, limits=limits, **asked) as table:
+            # The place lets 6 through, and 1.5 goes beside it: A alone sends what it gives, and B 3
+            # and 1.5.
+            alone = 4 if isinstance(asked["source"], dict) else Decimal("4.5")
+            found = table.vital_nodes()
+            assert [*found.nodes] == ["A", "M", "B"]
+            assert (found.value, found.values) == (
+                Decimal("7.5"),
+                [Decimal("4.5"), Decimal("1.5"), alone],
+            )
+            assert by_shutting(table, found.nodes) == found.values
+            assert [row[0] for row in table.vital_nodes(top=1)] == ["M"]
+    for ends in {"source": "A", "sink": "Z"}, {"source": "A", "sink": {"Z": 4}}:
+        for limits in {}, {"Z": 5}, {"A": 5}, {"M": 4, "Z": 3, "A": 2}:
+            with dmf.read_table(path, limits=limits, **ends) as table:
+                found = table.vital_nodes()
+                # A sink of which something is said is a node before that of the problem.
+                inner = ["M", "B", *["Z"] * isinstance(ends["sink"], dict)]
+                assert [*found.nodes] == inner
+                assert found.values == by_shutting(table, inner)
+                assert found.values == [0, table.solve().value, 0][: len(inner)]
 
 
 def test_arcs_without_a_bound() -> None:
@@ -181,8 +240,20 @@ def test_each_way_ends() -> None:
     for program in None, BUILT:
         with pipes(program=program) as network:
             assert list(network.vital().values) == [2, 3, 4, 3, 2]
-    with pytest.raises(dmf.SessionEnded, match="^the session was ended$"):
-        network.vital()
+            assert list(network.vital_nodes()) == [("mill", 2, 3), ("town", 2, 3)]
+    for ask in network.vital, network.vital_nodes:
+        with pytest.raises(dmf.SessionEnded, match="^the session was ended$"):
+            ask()
+
+
+def test_nodes_without_arcs() -> None:
+    """Also those that are added later, and where the source comes after the sink."""
+    for program in None, BUILT:
+        with dmf.Network([("b", "a", 3)], "b", "a", nodes=["x", "a"], program=program) as network:
+            network.add_node("y")
+            assert list(network.vital_nodes()) == [("x", 3, 0), ("y", 3, 0)]
+            network.solve()
+            assert list(network.vital_nodes()) == [("x", 3, 0), ("y", 3, 0)]
 
 
 @pytest.mark.parametrize("top", [-1, "three", 1.5])
@@ -190,6 +261,8 @@ def test_wrong_counts(top: Any) -> None:
     with pipes() as network:
         with pytest.raises(dmf.NotANumber, match="in 'vital': a number of arcs is a whole number"):
             network.vital(top)
+        with pytest.raises(dmf.NotANumber, match="a number of nodes is a whole number"):
+            network.vital_nodes(top)
 
 
 @pytest.mark.parametrize(
@@ -208,6 +281,16 @@ def test_answers_that_are_not_understood(answer: str) -> None:
     with script(f"printf '{answer}\n'") as program:
         with pytest.raises(dmf.SessionEnded, match="^dmf's answer to `vital` was not understood$"):
             dmf.vital([("a", "b", 1)], "a", "b", program=program)
+
+
+@pytest.mark.parametrize("answer", ["v 1 2", "v 2 x", "v 2 3\nv 3 3", ""])
+def test_answers_about_nodes(answer: str) -> None:
+    """An answer has each node but the source and the sink, in their order."""
+    with script(f'test "$1" = vital || exec "{BUILT}" "$@"\nprintf "c value 3\n{answer}\n"') as it:
+        with dmf.Network([("a", "b", 3), ("b", "c", 3)], "a", "c", program=it) as network:
+            said = "^dmf's answer to `vital --nodes` was not understood$"
+            with pytest.raises(dmf.SessionEnded, match=said):
+                network.vital_nodes()
 
 
 def test_interrupted() -> None:
@@ -232,3 +315,8 @@ def test_shown() -> None:
         assert repr(found) == "<VitalArcs of value 5 on 2 arcs>"
         table = found._repr_html_()
         assert all(text in table for text in ("lake", "mill", "without", "loss"))
+        nodes = network.vital_nodes()
+        assert repr(nodes) == "<VitalNodes of value 5 on 2 nodes>"
+        table = nodes._repr_html_()
+        assert all(text in table for text in ("node", "mill", "town", "without", "loss"))
+        assert "lake" not in table

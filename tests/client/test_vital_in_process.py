@@ -1,5 +1,5 @@
-"""What is left of the greatest value without each arc, by the C library in this process: when it is
-asked, beside the program, and how a call ends that is broken off or refused."""
+"""What is left of the greatest value without each arc or node, by the C library in this process:
+when it is asked, beside the program, and how a call ends that is broken off or refused."""
 
 from __future__ import annotations
 
@@ -11,6 +11,7 @@ import pytest
 from c_library import library_file
 from client_shared import BUILT, dmf, interrupted_soon, pipes
 from dmf.session import library as loaded
+from dmf.session.base import Part
 from dmf.session.fresh import values_without
 
 SECONDS = 60
@@ -38,12 +39,15 @@ def test_no_program_is_needed(monkeypatch: pytest.MonkeyPatch, bound: int) -> No
         network.add("lake", "sea", 1)
         with pytest.raises(dmf.NoProgram):
             network.vital()
+        with pytest.raises(dmf.NoProgram):
+            network.vital_nodes()
         with pytest.raises(dmf.NotANumber):
             network.vital(-1)
         monkeypatch.setenv("DMF", BUILT)
         # The new pipe carries nothing yet.
         found = network.vital()
         assert (network.value, found.value, list(found.losses)) == (5, 6, [3, 2, 1, 2, 3, 1])
+        assert list(network.vital_nodes().losses) == [3, 3]
         network.undo()
         assert network.flow() == plan and list(network.vital().values) == LEFT
 
@@ -58,17 +62,21 @@ def test_beside_the_program(seed: int, bound: int) -> None:
         network.add(0, 29, random.randrange(9))
         network.shut(random.randrange(1, 29))
         network.solve()
-        wanted = values_without(network._kept.copy().problem(), BUILT)
+        wanted = values_without(network._kept.copy().problem(), Part.ARC, BUILT)
         found = network.vital()
         assert (found.value, list(found.values)) == (wanted.value, list(wanted.without))
         assert any(found.losses) and len(found) == 201
+        wanted = values_without(network._kept.copy().problem(), Part.NODE, BUILT)
+        nodes = network.vital_nodes()
+        assert (nodes.value, list(nodes.values)) == (wanted.value, list(wanted.without)[1:29])
+        assert any(nodes.losses) and nodes.nodes == [*range(1, 29)]
 
 
 def test_broken_off(monkeypatch: pytest.MonkeyPatch) -> None:
     """Ctrl-C leaves the call alone, and the network as it was; the next call begins a session."""
     monkeypatch.setattr(loaded, "MOST_LOST_AT_ONCE", 0)
     library: Any = loaded.load(library_file())
-    losses, begun, until = library.arc_losses, threading.Event(), threading.Event()
+    losses, begun, until = library.losses[Part.ARC], threading.Event(), threading.Event()
 
     def slow(*words: int) -> int:
         if not begun.is_set():
@@ -76,7 +84,7 @@ def test_broken_off(monkeypatch: pytest.MonkeyPatch) -> None:
             until.wait(SECONDS)
         return int(losses(*words))
 
-    monkeypatch.setattr(library, "arc_losses", slow)
+    monkeypatch.setitem(library.losses, Part.ARC, slow)
     with pipes() as network:
         plan = network.solve()
         with pytest.raises(KeyboardInterrupt), interrupted_soon(0.3):
@@ -91,7 +99,10 @@ def test_want_of_memory(monkeypatch: pytest.MonkeyPatch, bound: int) -> None:
         network.solve()
         with monkeypatch.context() as patched:
             library = loaded.load(library_file())
-            patched.setattr(library, "arc_losses", lambda *_: loaded.NO_MEMORY)
-            with pytest.raises(dmf.NoMemory, match="^no memory$"):
-                network.vital()
+            for part in Part:
+                patched.setitem(library.losses, part, lambda *_: loaded.NO_MEMORY)
+            for ask in network.vital, network.vital_nodes:
+                with pytest.raises(dmf.NoMemory, match="^no memory$"):
+                    ask()
         assert list(network.vital().values) == LEFT and network.value == 5
+        assert list(network.vital_nodes().losses) == [3, 3]

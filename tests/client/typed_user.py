@@ -31,6 +31,8 @@ def changes(network: dmf.Network[str]) -> list[str]:
             print(case.value, case.difference, case.refusal)
         lost: dmf.VitalArcs[str] = copy.vital(top=3)
         print([(arc.tail, left, loss) for arc, left, loss in lost], dmf.vital([], "a", "b").value)
+        shut: dmf.VitalNodes[str] = copy.vital_nodes(top=3)
+        print([(node.upper(), left, loss) for node, left, loss in shut], shut.nodes[0].upper())
         for cases in (
             dmf.each_node_shut(),
             dmf.each_capacity_raised(1),

@@ -57,6 +57,8 @@ def test_each_row_is_tried() -> None:
         "nx.maximum_flow_value",
         "G.add_edge",
         "G.remove_edge",
+        "[nx.maximum_flow_value(nx.restricted_view(G, [],",
+        "[nx.maximum_flow_value(nx.restricted_view(G, [v]",
         "maximum_flow(matrix",
     ]
     tried += ["found = g.maxflow", "found.partition", "found.cut"]
@@ -125,6 +127,15 @@ def test_what_ifs(seed: int) -> None:
         *_, plan = run(here, names)
         run(cell[:1], names)
         assert plan.value == nx.maximum_flow_value(graph, 0, 7)
+
+
+@pytest.mark.parametrize("seed", SEEDS)
+def test_losses(seed: int) -> None:
+    names = {"nx": nx, "dmf": dmf, "G": graph_of(seed), "s": 0, "t": 7}
+    for begin in "[], [e]", "[v], []":
+        cells = Cells(f"[nx.maximum_flow_value(nx.restricted_view(G, {begin})")
+        (wanted,), (found,) = run(cells.there, dict(names)), run(cells.here, dict(names))
+        assert [*found] == wanted and len(wanted) > 5
 
 
 @pytest.mark.parametrize("seed", SEEDS)

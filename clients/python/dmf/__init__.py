@@ -11,7 +11,7 @@ help(dmf.Solution)        a flow: by arcs, as an array, a frame, a matrix, a dic
 help(dmf.Cut)             the limit: its capacity, its arcs, its two sides
 help(dmf.maximum_flow)    of a graph of networkx or igraph, or a matrix of scipy, in one call;
                           also minimum_cut, value alone, and vital: what is
-                          lost without each arc
+                          lost without each arc; Network.vital_nodes: or node
 help(dmf.read)            a network of a file; also from_networkx, from_igraph, from_scipy, and
                           Network.from_arrays, Network.from_frame
 help(dmf.open_project)    a project of dmf-plan: its scenarios, compared; its steps
@@ -92,6 +92,8 @@ if TYPE_CHECKING:
     from .graphs import minimum_cut as minimum_cut
     from .graphs import value as value
     from .graphs import vital as vital
+    from .losses import VitalArcs as VitalArcs
+    from .losses import VitalNodes as VitalNodes
     from .network import Network as Network
     from .network import Row as Row
     from .network import ScaledNetwork as ScaledNetwork
@@ -109,7 +111,6 @@ if TYPE_CHECKING:
     from .tables.network_loader import read_table as read_table
     from .tables.problem_networks import read as read
     from .tables.table_network import TableNetwork as TableNetwork
-    from .vital_arcs import VitalArcs as VitalArcs
 
 # The public names of each module. The module `errors` lists those of the exceptions itself.
 _NAMES = {
@@ -121,6 +122,7 @@ _NAMES = {
     "graph_flows": ["EdgeFlow", "MatrixFlow"],
     "graph_networks": ["from_igraph", "from_networkx", "from_scipy"],
     "graphs": ["maximum_flow", "minimum_cut", "value", "vital"],
+    "losses": ["VitalArcs", "VitalNodes"],
     "network": ["Network", "Row", "ScaledNetwork"],
     "scaled_solution": ["ScaledSolution"],
     "session.executable": ["program"],
@@ -137,7 +139,6 @@ _NAMES = {
     "tables.network_loader": ["read_table"],
     "tables.problem_networks": ["read"],
     "tables.table_network": ["TableNetwork"],
-    "vital_arcs": ["VitalArcs"],
 }
 _HOMES = {name: module for module, names in _NAMES.items() for name in names}
 if not TYPE_CHECKING:

@@ -15,6 +15,7 @@ from .graph_rows import GivenNetwork, given_network, is_igraph, is_networkx
 from .rows import Whole
 from .session.base import (
     PROGRAM,
+    Part,
     ProblemColumns,
     Program,
     Runner,
@@ -31,7 +32,7 @@ from .unbounded_arcs import BoundlessFlow, flows_of, solve_unbounded
 if TYPE_CHECKING:
     from decimal import Decimal
 
-    from .vital_arcs import VitalArcs
+    from .losses import VitalArcs
 
     Flows = Dict[Node, Dict[Node, int]]
 
@@ -349,7 +350,7 @@ def vital(
     >>> found.value, list(found.values), list(found.losses)
     (3, [1, 2, 1], [2, 1, 2])
     """
-    from .vital_arcs import VitalArcs
+    from .losses import VitalArcs
 
     reader = CapacityReader(infinite, scale)
     given = given_network(graph, source, sink, capacity, reader)
@@ -358,7 +359,7 @@ def vital(
     try:
         return VitalArcs.of(
             state.every_arc(),
-            lambda: values_without(problem, program_of(program)),
+            lambda: values_without(problem, Part.ARC, program_of(program)),
             reader.measure,
             top,
         )

@@ -18,7 +18,7 @@ from .columns import Node
 from .errors import Error, NoSuchArc, SessionEnded, UsedByTwoProcesses, UsedByTwoThreads
 from .history import Command
 from .rows import whole
-from .session.base import Session, Told, ValuesWithout
+from .session.base import Part, Session, Told, ValuesWithout
 from .session.runners import program_of, start
 from .solution import Flows, Solution
 from .state import NetworkState
@@ -140,19 +140,20 @@ class SessionHolder(Generic[Node]):
         `FlowIsNotGreatest`."""
         return self._session.cut()[1]
 
-    def _values_without(self) -> ValuesWithout:
-        """Return the greatest value without each arc, from the session if it finds that, else from
-        the program."""
-        found = self._asked_values_without()
+    def _values_without(self, part: Part) -> ValuesWithout:
+        """Return the greatest value without each arc or node, from the session if it finds that,
+        else from the program."""
+        found = self._asked_values_without(part)
         if found is not None:
             return found
         from .session.fresh import values_without
 
-        return values_without(self._kept.copy().problem(), program_of(self._session.program))
+        problem = self._kept.copy().problem()
+        return values_without(problem, part, program_of(self._session.program))
 
     @exclusive
-    def _asked_values_without(self) -> ValuesWithout | None:
-        return self._session.values_without()
+    def _asked_values_without(self, part: Part) -> ValuesWithout | None:
+        return self._session.values_without(part)
 
     @exclusive
     def _flow_of_each(self) -> array[int]:

@@ -10,7 +10,7 @@ from heapq import nsmallest
 from typing import NamedTuple
 
 from ..quantity import Quantity
-from ..session.base import ValuesWithout
+from ..session.base import Part, ValuesWithout
 from ..session.fresh import values_without
 from ..session.runners import program_of
 from .steps import DeskFault
@@ -38,7 +38,7 @@ def worth_of(desk: Desk) -> ValuesWithout:
     session. Raises what a network's `vital` raises."""
     network, answers = desk.network, desk.state.answers
     if answers.worth is None:
-        answers.worth = values_without(network.problem(), program_of(network.program))
+        answers.worth = values_without(network.problem(), Part.ARC, program_of(network.program))
     return answers.worth
 
 

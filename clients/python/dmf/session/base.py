@@ -13,6 +13,7 @@ import sys
 import weakref
 from array import array
 from collections.abc import Callable, Iterator, Sequence
+from enum import Enum
 from typing import Any, NamedTuple, Optional, Protocol, Union
 
 from ..errors import HistoryOutOfRange, Refused, SessionEnded, shown_value
@@ -54,8 +55,16 @@ class ProblemColumns(NamedTuple):
         return self.tails, self.heads, self.capacities
 
 
+class Part(Enum):
+    """What is left out of a network in turn: each arc, or each node with all arcs at it."""
+
+    ARC = "arc"
+    NODE = "node"
+
+
 class ValuesWithout(NamedTuple):
-    """The greatest value, and for each arc the greatest value without it, arc 1 first."""
+    """The greatest value, and the greatest value without each arc or each node, that without number
+    1 first. The source and the sink are never left out, so the value stands there."""
 
     value: int
     without: array[int]
@@ -139,9 +148,9 @@ class Session:
         in ascending order."""
         raise NotImplementedError
 
-    def values_without(self) -> ValuesWithout | None:
-        """Return the greatest value without each arc, or None if only a run of its own finds it:
-        the session runs in the program, or its flow is not a maximum flow."""
+    def values_without(self, part: Part) -> ValuesWithout | None:
+        """Return the greatest value without each arc or node, or None if only a run of its own
+        finds it: the session runs in the program, or its flow is not a maximum flow."""
         return None
 
     def problem(self) -> bytes:

@@ -13,6 +13,7 @@ from ..history import Command
 from ..text.lexical import AMOUNTS
 from .base import (
     FilePath,
+    Part,
     ProblemColumns,
     Session,
     Told,
@@ -29,7 +30,7 @@ if TYPE_CHECKING:
     from .process import Begun
 
 VALUE, CUT, FLOW = ["solve", "--brief"], ["solve", "--brief", "--cut"], ["solve", "--any"]
-VITAL = ["vital"]
+VITAL = {Part.ARC: ["vital"], Part.NODE: ["vital", "--nodes"]}
 
 
 class Solved(NamedTuple):
@@ -60,22 +61,35 @@ def solved(
 
 
 def values_without(
-    problem: ProblemColumns, program: FilePath, begun: Begun | None = None
+    problem: ProblemColumns, part: Part, program: FilePath, begun: Begun | None = None
 ) -> ValuesWithout:
     """Return the program's answer to `vital` about a problem. Raises what `solved` raises."""
-    fields = _answer(problem_pieces(problem), VITAL, program, begun).split()
+    words = VITAL[part]
+    fields = _answer(problem_pieces(problem), words, program, begun).split()
     try:
+        value = int(fields[2])
         without = array(AMOUNTS, map(int, fields[5::3]))
-        numbers = [*map(int, fields[4::3])]
+        expected = _numbers_of(problem, part)
         if (
             fields[:2] != [b"c", b"value"]
-            or numbers != [*range(1, len(problem.tails) + 1)]
-            or len(without) != len(numbers)
+            or [*map(int, fields[4::3])] != expected
+            or len(without) != len(expected)
         ):
             raise ValueError
-        return ValuesWithout(int(fields[2]), without)
     except (IndexError, OverflowError, ValueError):
-        raise _not_understood(VITAL) from None
+        raise _not_understood(words) from None
+    if part is Part.NODE:
+        for end in sorted((problem.source, problem.sink)):
+            without.insert(end - 1, value)
+    return ValuesWithout(value, without)
+
+
+def _numbers_of(problem: ProblemColumns, part: Part) -> list[int]:
+    """Return the numbers of what `vital` leaves out in turn, in its order."""
+    if part is Part.ARC:
+        return [*range(1, len(problem.tails) + 1)]
+    ends = problem.source, problem.sink
+    return [number for number in range(1, problem.nodes + 1) if number not in ends]
 
 
 def _answer(

@@ -16,6 +16,7 @@ from ..errors import NoProgram, Refused
 from ..history import Command
 from ..text.lexical import AMOUNTS, display
 from .base import (
+    Part,
     ProblemColumns,
     Session,
     ValuesWithout,
@@ -97,7 +98,10 @@ class Library:
         self.arcs = self._call("dmf_session_arcs", [_POINTER], _SIZE)
         self.flows = self._call("dmf_session_flows", [_POINTER, _POINTER, _SIZE])
         self.side = self._call("dmf_session_side", [_POINTER, _POINTER, _SIZE])
-        self.arc_losses = self._call("dmf_session_arc_losses", [_POINTER, _POINTER, _SIZE])
+        self.losses = {
+            part: self._call(f"dmf_session_{part.value}_losses", [_POINTER, _POINTER, _SIZE])
+            for part in Part
+        }
         self.problem = self._call("dmf_session_problem", [_POINTER, _POINTER, _SIZE, _POINTER])
 
     def _call(self, name: str, arguments: list[Any], result: Any = _WORD) -> Callable[..., int]:
@@ -290,12 +294,13 @@ class LibrarySession(Session):
         # The cut has the capacity of the value, as each minimum cut.
         return self._library.value(held.address), list(compress(count(1), marks))
 
-    def values_without(self) -> ValuesWithout | None:
-        return self._do(self._values_without, most_at_once=MOST_LOST_AT_ONCE)
+    def values_without(self, part: Part) -> ValuesWithout | None:
+        return self._do(self._values_without, part, most_at_once=MOST_LOST_AT_ONCE)
 
-    def _values_without(self, held: Handle) -> ValuesWithout | None:
-        losses = array(AMOUNTS, [0]) * self._library.arcs(held.address)
-        status = self._library.arc_losses(held.address, _place(losses), len(losses))
+    def _values_without(self, held: Handle, part: Part) -> ValuesWithout | None:
+        count = self._library.arcs if part is Part.ARC else self._library.nodes
+        losses = array(AMOUNTS, [0]) * count(held.address)
+        status = self._library.losses[part](held.address, _place(losses), len(losses))
         if status == NOT_GREATEST:
             return None
         if status != OK:

@@ -8,7 +8,7 @@ from collections.abc import Callable
 from typing import Any
 
 from ..errors import Error
-from ..session.base import Program
+from ..session.base import Part, Program
 from ..session.fresh import values_without
 from ..session.runners import program_of
 from ..state import NetworkState
@@ -49,7 +49,7 @@ class ClosedArcs(Tries):
     ) -> Tries:
         """Run the program, and return what answers the cases: the others if it fails."""
         try:
-            found = values_without(kept.problem(), program_of(program))
+            found = values_without(kept.problem(), Part.ARC, program_of(program))
         except Error:
             return begin_others()
         return cls(kept, found.without, begin_others)

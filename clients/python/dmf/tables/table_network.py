@@ -120,6 +120,12 @@ class TableNetwork(ScaledNetwork[str]):
     def _every_arc(self) -> OpenArcs[str]:
         return super()._every_arc().without(self._roles)
 
+    def _inner_nodes(self) -> dict[str, int]:
+        kept, halves = self._kept, self._columns.described.halves
+        ends = {halves.get(end, end) for end in map(kept.number, (kept.source, kept.sink))}
+        numbers = {place: kept.number(place) for place in self.nodes}
+        return {place: number for place, number in numbers.items() if number not in ends}
+
     @cached_property
     def _extra(self) -> Extra:
         return self._load()

@@ -7,7 +7,7 @@ import subprocess
 import threading
 
 from ...errors import Error
-from ...session.base import ProblemColumns, Program
+from ...session.base import Part, ProblemColumns, Program
 from ...session.fresh import values_without
 from ...session.runners import program_of
 from ..answers import LARGE, Answers
@@ -30,7 +30,7 @@ class WorthRun:
     def _find(self) -> None:
         try:
             program = program_of(self._program)
-            self.answers.worth = values_without(self._problem, program, self._begun)
+            self.answers.worth = values_without(self._problem, Part.ARC, program, self._begun)
         except (Error, OSError):
             self.has_failed = True
 
