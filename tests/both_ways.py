@@ -21,6 +21,7 @@ BOTH = {
     "test_networks",
     "test_numbering",
     "test_once",
+    "test_plan_places_worth",
     "test_reading",
     "test_sweeps",
     "test_sweeps_from_scratch",

@@ -1,5 +1,5 @@
-"""Tests what a board finds of each pipe's worth beside its requests, and how its page shows it, by
-headless Chromium, beside values that are found by trying all sets of places."""
+"""Tests what a board finds of the worth of pipes and places beside its requests, and how its page
+shows it, by headless Chromium, beside values that are found by trying all sets of places."""
 
 from __future__ import annotations
 
@@ -12,6 +12,7 @@ import pytest
 from board_pages import Page
 from board_running import Board, board
 from built import heed_interrupts
+from c_library import library_file
 from client_shared import BUILT, is_running, script
 from desk_shared import PIPES, SECONDS, Pipe, greatest, swept, water
 
@@ -52,6 +53,51 @@ def judge(it: Board, pipes: list[Pipe], numbers: dict[str, int]) -> None:
     for name in left:
         row = it.told(f"arc?number={numbers[name]}")
         assert (row["without"], row["lost"]) == (str(left[name]), str(value - left[name]))
+    judge_places(it, pipes, told["places"])
+
+
+PLACES = [*dict.fromkeys(place for pipe in water() for place in pipe[:2])]
+
+
+def judge_places(it: Board, pipes: list[Pipe], told: Any) -> None:
+    """Judge what a board tells of places. Those of the story have the numbers of their order."""
+    value = greatest(pipes)
+    left = {name: greatest([it for it in pipes if name not in it[:2]]) for name in PLACES}
+    for node, name in enumerate(PLACES, 1):
+        row = it.told(f"place?node={node}")
+        assert (row["name"], row["without"], row["lost"]) == (
+            name,
+            str(left[name]),
+            str(value - left[name]),
+        )
+    inner = [name for name in left if name not in ("Reservoir", "Harbour") and left[name] < value]
+    wanted = sorted(inner, key=lambda name: (left[name], PLACES.index(name)))
+    assert told["more"] == max(0, len(wanted) - 10)
+    assert [(row["name"], row["node"], row["without"], row["lost"]) for row in told["worst"]] == [
+        (name, PLACES.index(name) + 1, str(left[name]), str(value - left[name]))
+        for name in wanted[:10]
+    ]
+
+
+def test_by_the_library(monkeypatch: pytest.MonkeyPatch) -> None:
+    """No program begins."""
+    monkeypatch.setenv("DMF_LIBRARY", library_file())
+    monkeypatch.setenv("DMF", "/nowhere")
+    numbers = {name: number for number, name in enumerate(NAMES, 1)}
+    with board(PIPES) as it:
+        judge(it, water(), numbers)
+        it.do(what="close", arc=numbers["Bridge pipe"])
+        judge(it, [pipe for pipe in water() if pipe.name != "Bridge pipe"], numbers)
+
+
+def test_failures(monkeypatch: pytest.MonkeyPatch) -> None:
+    """Nothing is known then."""
+    with script(f'test "$1" != vital || exit 9\nexec "{BUILT}" "$@"') as program:
+        monkeypatch.setenv("DMF", program)
+        with board(PIPES) as it:
+            told = worth(it)
+            assert (told["is_known"], told["worst"], told["places"]["worst"]) == (False, [], [])
+            assert it.told("place?node=4")["without"] == ""
 
 
 def test_each_state() -> None:
@@ -60,6 +106,7 @@ def test_each_state() -> None:
     with board(PIPES) as it:
         # Before it is found nothing is told of it.
         assert it.told("arc?number=9")["without"] == ""
+        assert it.told("place?node=4")["lost"] == ""
         judge(it, water(), numbers)
         it.do(what="close", arc=numbers["Bridge pipe"])
         assert it.told("arc?number=9")["without"] == ""

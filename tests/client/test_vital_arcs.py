@@ -167,7 +167,8 @@ def test_decimals() -> None:
             (3, Decimal("0.25")),
             (1, Decimal("0.15")),
         ]
-        network.add("a", "c", Decimal("0.07"))
+        scaled: Any = network
+        scaled.add("a", "c", Decimal("0.07"))
         assert list(network.vital_nodes()) == [("b", Decimal("0.07"), Decimal("0.25"))]
         assert type(network.vital_nodes().value) is Decimal
 
@@ -191,12 +192,11 @@ def test_places_of_tables(tmp_path: Path) -> None:
     place with a limit is one node, and what is the source or the sink alone is none."""
     path = tmp_path / "pipes.csv"
     path.write_text("from,to,capacity,name\nA,M,4.5,one\nB,M,3,two\nM,Z,9,out\nB,Z,1.5,by\n")
-    limits = {"M": 6}
-    for asked in {"source": {"A": 4, "B": None}, "sink": "Z"}, {"source": ["A", "B"], "sink": "Z"}:
-        with dmf.read_table(path, limits=limits, **asked) as table:
+    sources: list[tuple[Any, Any]] = [({"A": 4, "B": None}, 4), (["A", "B"], Decimal("4.5"))]
+    for source, alone in sources:
+        with dmf.read_table(path, limits={"M": 6}, source=source, sink="Z") as table:
             # The place lets 6 through, and 1.5 goes beside it: A alone sends what it gives, and B 3
             # and 1.5.
-            alone = 4 if isinstance(asked["source"], dict) else Decimal("4.5")
             found = table.vital_nodes()
             assert [*found.nodes] == ["A", "M", "B"]
             assert (found.value, found.values) == (
@@ -205,12 +205,14 @@ def test_places_of_tables(tmp_path: Path) -> None:
             )
             assert by_shutting(table, found.nodes) == found.values
             assert [row[0] for row in table.vital_nodes(top=1)] == ["M"]
-    for ends in {"source": "A", "sink": "Z"}, {"source": "A", "sink": {"Z": 4}}:
-        for limits in {}, {"Z": 5}, {"A": 5}, {"M": 4, "Z": 3, "A": 2}:
-            with dmf.read_table(path, limits=limits, **ends) as table:
+    sinks: list[Any] = ["Z", {"Z": 4}]
+    every: list[dict[str, Any]] = [{}, {"Z": 5}, {"A": 5}, {"M": 4, "Z": 3, "A": 2}]
+    for sink in sinks:
+        for limits in every:
+            with dmf.read_table(path, limits=limits, source="A", sink=sink) as table:
                 found = table.vital_nodes()
                 # A sink of which something is said is a node before that of the problem.
-                inner = ["M", "B", *["Z"] * isinstance(ends["sink"], dict)]
+                inner = ["M", "B", *["Z"] * isinstance(sink, dict)]
                 assert [*found.nodes] == inner
                 assert found.values == by_shutting(table, inner)
                 assert found.values == [0, table.solve().value, 0][: len(inner)]

@@ -98,7 +98,7 @@ def test_want_of_memory(monkeypatch: pytest.MonkeyPatch, bound: int) -> None:
     with pipes() as network:
         network.solve()
         with monkeypatch.context() as patched:
-            library = loaded.load(library_file())
+            library: Any = loaded.load(library_file())
             for part in Part:
                 patched.setitem(library.losses, part, lambda *_: loaded.NO_MEMORY)
             for ask in network.vital, network.vital_nodes:

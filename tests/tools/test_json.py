@@ -41,6 +41,8 @@ what-if close North rise
 what-if each arc of the cut
 worst 2
 worth Mill Lane
+worst places 2
+worth place Mill
 scenario
 scenario new B from first
 cap where name ~ Market +10 %

@@ -7,11 +7,11 @@ import contextlib
 import threading
 from array import array
 from collections.abc import Sequence
-from dataclasses import dataclass
+from dataclasses import dataclass, field
 from typing import NamedTuple
 
 from ..errors import Error, FlowIsNotGreatest
-from ..session.base import Program, ValuesWithout
+from ..session.base import Part, Program, ValuesWithout
 from ..session.fresh import CUT, Solved, solved
 from ..session.runners import program_of
 from .live_network import LiveNetwork
@@ -69,7 +69,7 @@ class Answers:
     flows, net
         The flow on each arc, and the net flow on each pipe.
     worth
-        The greatest value without each arc.
+        The greatest value without each arc, and without each node, once these were asked for.
     """
 
     inside: Sequence[int] | None = None
@@ -78,7 +78,12 @@ class Answers:
     limit: Limit | None = None
     flows: array[int] | None = None
     net: Sequence[int] | None = None
-    worth: ValuesWithout | None = None
+    worth: dict[Part, ValuesWithout] = field(default_factory=dict)
+
+    @property
+    def knows_worth(self) -> bool:
+        """Return True if what is left without each arc and without each node is known."""
+        return len(self.worth) == len(Part)
 
     def find_limit(self, network: LiveNetwork) -> Limit:
         """Return the limit of this state, in which the network has to stand. Raise

@@ -302,6 +302,11 @@ class Directory:
     def is_place(self, text: str) -> bool:
         return self._place_name(cleaned(text)) in self.places
 
+    def has_place(self, text: str) -> bool:
+        """Return True if a place has this name, or several have it."""
+        name = self._place_name(cleaned(text))
+        return name in self.places or name in self._several
+
     def _place_name(self, name: str) -> str:
         """Return the name of the place that a text names, if it may be in any case, or else the
         text."""
@@ -345,6 +350,13 @@ class Directory:
         """Return the pipes, open or closed, that a text names: by their name, by their ends, as in
         `Mill-Town` or `Mill Town`, or by their number, as in `#7`. Raise a `DeskFault` if there are
         none."""
+        found = self.arcs_or_none(text)
+        if not found:
+            raise DeskFault(self._unknown_arc(cleaned(text)))
+        return found
+
+    def arcs_or_none(self, text: str) -> list[int]:
+        """Return the same pipes, or none."""
         name = cleaned(text)
         number = self._numbered(name)
         found = {number: None} if 1 <= number <= len(self._lines) else {}
@@ -355,8 +367,6 @@ class Directory:
                     self._between.get((self.places[tail].exit, self.places[head].entry), ())
                 )
             )
-        if not found:
-            raise DeskFault(self._unknown_arc(name))
         return sorted(self._pipes.numbers(found))
 
     def _splits(self, name: str) -> Iterator[tuple[str, str]]:

@@ -10,7 +10,7 @@ from collections.abc import Iterable
 from ..arcs import Arc
 from ..errors import Error, Refused
 from ..quantity import Quantity, moved
-from ..session.base import ProblemColumns, Program
+from ..session.base import Part, ProblemColumns, Program, ValuesWithout
 from ..tables.loader import LoadedProblem
 from ..tables.problem_networks import whole_network
 from .network_arcs import NetworkArcs
@@ -189,6 +189,11 @@ class LiveNetwork(NetworkArcs):
     def problem(self) -> ProblemColumns:
         """Return the problem of all arcs as they are, in which a closed one carries nothing."""
         return self.network._kept.copy().problem()
+
+    def values_without(self, part: Part) -> ValuesWithout:
+        """Return the greatest value without each arc or node: from the session if it runs in this
+        process and its flow is greatest, else from the program."""
+        return self.network._values_without(part)
 
     def flows(self) -> array[int]:
         """Return the flow on each arc, in the whole numbers of the session: that on arc 1 first,

@@ -92,6 +92,25 @@ class NetworkArcs:
         """Return the places that flow goes to, by their nodes."""
         return self.folding.ends(self.sink)
 
+    def inner_places(self) -> list[int]:
+        """Return the places, by their nodes, without the problem's source and sink."""
+        ends = {*map(self.folding.place, (self.source, self.sink))}
+        every = self.folding.places(range(1, self.names.node_count + 1))
+        return [node for node in every if node not in ends]
+
+    @cached_property
+    def entered_exits(self) -> set[int]:
+        """Return the second nodes of places that arcs enter from other places. A problem that was
+        made from a table has none."""
+        if not self.folding.has_roles:
+            return set()
+        place = self.folding.place
+        return {
+            head
+            for tail, head in self.lines.ends()
+            if place(head) != head and place(tail) != place(head)
+        }
+
     @cached_property
     def told_source(self) -> str:
         """Return the name of the source, or the names of the places that it joins."""

@@ -9,6 +9,7 @@ from collections.abc import Callable, Iterable
 from typing import Any
 
 from ...quantity import magnitude
+from ...session.base import Part
 from ...text.drawing import spread
 from ...text.spelling import folded
 from ..export import MOST_DRAWN
@@ -134,8 +135,8 @@ class ArcList:
         """Return all arcs that a filter shows, in an order: that of the file, or by a column, `-`
         before which turns it round. Raise a `DeskFault` if the filter has no meaning."""
         # What an arc is worth becomes known later than the state.
-        worth = self._desk.state.answers.worth
-        key = self._desk.turn, text, order, worth is not None
+        is_known = Part.ARC in self._desk.state.answers.worth
+        key = self._desk.turn, text, order, is_known
         if not self._kept or self._kept[0] != key:
             conditions, _ = self._filters.read(text)
             found = [
@@ -194,7 +195,7 @@ class ArcList:
 
     def _lost(self, number: int) -> int:
         """Return what is lost without an arc: nothing while that is not known."""
-        worth = self._desk.state.answers.worth
+        worth = self._desk.state.answers.worth.get(Part.ARC)
         return worth.value - left_without(self._desk, worth, number) if worth else 0
 
     def _label(self, number: int) -> str:

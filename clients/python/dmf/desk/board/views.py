@@ -8,6 +8,7 @@ from collections.abc import Sequence
 from decimal import Decimal
 
 from ...quantity import EXACT, Quantity, magnitude, moved, plain_text
+from ...session.base import Part, ValuesWithout
 from ...text.spelling import cleaned, nearest
 from ..analysis import cheapest, priced, prices
 from ..demands import told_demands
@@ -16,7 +17,7 @@ from ..pipes import TwoWayPipe, other_way, way_sign
 from ..project.scenarios import Scenarios
 from ..steps import DeskFault, Place, Trial, UnknownPlace
 from ..workspace import Desk
-from ..worth import left_without, losses, worst
+from ..worth import left_without, left_without_place, losses, worst, worst_places
 from .responses import Json, whole
 
 
@@ -178,38 +179,68 @@ def arc_views(desk: Desk, numbers: Sequence[int]) -> list[Json]:
 def with_worth(desk: Desk, arcs: list[Json]) -> list[Json]:
     """Return what is told of arcs, with what is left without each and what is lost, which are empty
     while that is not known."""
-    worth, quantity = desk.state.answers.worth, desk.network.measure.quantity
+    worth = desk.state.answers.worth.get(Part.ARC)
     if worth is None:
-        return [{**arc, "without": "", "lost": ""} for arc in arcs]
+        return [{**arc, **NOT_KNOWN} for arc in arcs]
     left = [left_without(desk, worth, arc["number"]) for arc in arcs]
-    return [
-        {
-            **arc,
-            "without": plain_text(quantity(without)),
-            "lost": plain_text(quantity(worth.value - without)),
-        }
-        for arc, without in zip(arcs, left)
-    ]
+    return [{**arc, **_told_worth(desk, worth, it)} for arc, it in zip(arcs, left)]
 
 
-# How many arcs are listed as the worst to lose, and the losses of how many are told.
+def _told_worth(desk: Desk, worth: ValuesWithout, left: int) -> Json:
+    """Return what is left without an arc or a place, and what is lost."""
+    quantity = desk.network.measure.quantity
+    return {
+        "without": plain_text(quantity(left)),
+        "lost": plain_text(quantity(worth.value - left)),
+    }
+
+
+# How many arcs and places are listed as the worst to lose, and the losses of how many are told.
 MOST_WORST, MOST_LOSSES = 10, 5_000
+# What is told of an arc or a place while it is not known what is left without it.
+NOT_KNOWN = {"without": "", "lost": ""}
 
 
 def worth_view(desk: Desk) -> Json:
-    """Return the arcs that are worst to lose, how many more cost something, and the loss of each
-    arc of the table by its number: of many, those of the worst. Nothing is known if the program
-    failed, or the network is too large."""
-    if desk.state.answers.worth is None:
-        return {"is_known": False, "worst": [], "more": 0, "losses": {}}
+    """Return the arcs and the places that are worst to lose, how many more of each cost something,
+    and the loss of each arc of the table by its number: of many, those of the worst. Nothing is
+    known if the search failed, or the network is too large."""
+    if not desk.state.answers.knows_worth:
+        nothing: Json = {"worst": [], "more": 0}
+        return {"is_known": False, **nothing, "places": nothing, "losses": {}}
     (found, more), pictured = worst(desk, MOST_LOSSES), desk.network.pictured()
     told = losses(desk, pictured) if len(pictured) <= MOST_LOSSES else found
     return {
         "is_known": True,
-        "worst": with_worth(desk, arc_views(desk, [it.arc for it in found[:MOST_WORST]])),
+        "worst": with_worth(desk, arc_views(desk, [it.number for it in found[:MOST_WORST]])),
         "more": more + max(0, len(found) - MOST_WORST),
-        "losses": {it.arc: plain_text(it.loss) for it in told},
+        "places": _worst_places(desk),
+        "losses": {it.number: plain_text(it.loss) for it in told},
     }
+
+
+def _worst_places(desk: Desk) -> Json:
+    """Return the places that are worst to lose, and how many more cost something."""
+    found, more = worst_places(desk, MOST_WORST)
+    told = [
+        {
+            "node": it.number,
+            "name": desk.network.names.node(it.number),
+            "without": plain_text(it.left),
+            "lost": plain_text(it.loss),
+        }
+        for it in found
+    ]
+    return {"worst": told, "more": more}
+
+
+def _place_worth(desk: Desk, place: Place) -> Json:
+    """Return what is left without a place, and what is lost, which are empty while that is not
+    known."""
+    worth = desk.state.answers.worth.get(Part.NODE)
+    if worth is None:
+        return NOT_KNOWN
+    return _told_worth(desk, worth, left_without_place(desk, worth, place))
 
 
 def place_view(desk: Desk, node: int) -> Json:
@@ -228,6 +259,7 @@ def place_view(desk: Desk, node: int) -> Json:
         "shut": bool(network.shut_nodes & set(place)),
         "open": bool(entering or leaving),
         "side": node in desk.side(),
+        **_place_worth(desk, place),
     }
 
 

@@ -17,7 +17,7 @@ from ..workspace import Desk
 from .context import Confirm
 from .grammar import COMMANDS, NEW, is_number, one_name
 
-WHERE, AND, BACK = "where", "and", "back"
+WHERE, AND, BACK, THE_PLACE = "where", "and", "back", "place"
 HINT = f"`{NEW}` before its name makes a new place"
 CONDITIONS = (
     "name ~ TEXT, from ~ TEXT, to ~ TEXT, capacity < NUMBER, flow >= NUMBER, full, limit; with "
@@ -221,6 +221,32 @@ def arcs_of_name(desk: Desk, name: str) -> list[int]:
     network = desk.network
     opened = [it for it in network.names.arcs(name) if not network.pipe(it).is_closed]
     return opened or [network.the_arc(name)]
+
+
+def place_named(desk: Desk, words: list[str]) -> Place | None:
+    """Return the place that the words of `worth` name, or None if they name arcs. Raise a
+    `DeskFault` if they can name both."""
+    names, name, rest = desk.network.names, one_name(words, "worth"), " ".join(words[1:])
+    arcs, is_place = names.arcs_or_none(name), names.has_place(name)
+    if words[0] == THE_PLACE and rest:
+        if not arcs and not is_place:
+            return names.place(rest)
+        if names.has_place(rest):
+            raise DeskFault("this can mean several things; put the name in quotes")
+    if is_place and arcs:
+        raise DeskFault(
+            f"{quoted_name(name)} is a place, and also {names.list(arcs)}; `worth {THE_PLACE} "
+            f"{name}` is about the place, `worth #{arcs[0]}` about that arc"
+        )
+    if arcs:
+        return None
+    try:
+        return names.place(name)
+    except UnknownPlace:
+        # The fault says what the name may have been meant to be.
+        if nearest(name, names.places) and not nearest(name, names.spoken()):
+            raise
+        return None
 
 
 def arcs_to_try(desk: Desk, words: list[str]) -> list[int]:

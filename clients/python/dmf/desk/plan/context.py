@@ -62,6 +62,14 @@ class Output:
         """Write what is lost without each of the worst arcs, and how many more cost something."""
         raise NotImplementedError
 
+    def worst_places(self, desk: Desk, losses: list[Loss], more: int) -> None:
+        """Write what is lost without each of the worst places, and how many more cost something."""
+        raise NotImplementedError
+
+    def worth_of_place(self, desk: Desk, loss: Loss) -> None:
+        """Write what is lost without a place."""
+        raise NotImplementedError
+
     def worth(self, desk: Desk, losses: list[Loss], together: Quantity) -> None:
         """Write what is lost without each of the arcs of a name, and the value that is left without
         all of them."""

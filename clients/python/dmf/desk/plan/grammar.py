@@ -13,7 +13,7 @@ from ..steps import DeskFault
 from ..workspace import Desk
 
 LONGEST_COUNT = 12
-FLOW, PLACE, ARC, CLOSED, COMMAND, EACH, SCENARIO = (
+FLOW, PLACE, ARC, CLOSED, COMMAND, EACH, SCENARIO, LOSS, WORST = (
     "flow",
     "place",
     "arc",
@@ -21,7 +21,11 @@ FLOW, PLACE, ARC, CLOSED, COMMAND, EACH, SCENARIO = (
     "command",
     "each",
     "scenario",
+    "loss",
+    "worst",
 )
+# The word of `worst` for places.
+PLACES = "places"
 
 
 class Help(NamedTuple):
@@ -115,15 +119,18 @@ COMMANDS = {
         "cost ..",
     ),
     "worst": Help(
-        "worst [NUMBER]",
+        "worst [places] [NUMBER]",
         "Lists the NUMBER arcs (10 by default) whose loss lowers the value most, each with the "
-        "value that is left without it. Nothing changes.",
+        "value that is left without it; with `places` the places, except one that is the only "
+        "source or sink. Nothing changes.",
+        WORST,
     ),
     "worth": Help(
-        "worth ARC",
-        "Shows the value that is left without an arc. If several arcs have the name, it shows what "
-        "is left without each, and without all of them. Nothing changes.",
-        ARC,
+        "worth ARC|PLACE",
+        "Shows the value that is left without an arc, or without a place and each arc at it. If "
+        "several arcs have the name, it shows what is left without each, and without all of them. "
+        "`worth place NAME` is about a place. Nothing changes.",
+        LOSS,
     ),
     "draw": Help(
         "draw FILE",
@@ -303,13 +310,15 @@ def _candidates(desk: Desk, before: list[str]) -> Iterator[str]:
             yield from (*names.places, NEW)
     elif takes == PLACE and len(before) == 1:
         yield from names.places
-    elif takes in (ARC, FLOW) and len(before) == 1:
+    elif takes == WORST and len(before) == 1:
+        yield PLACES
+    elif takes in (ARC, FLOW, LOSS) and len(before) == 1:
         yield from (
             names.called(n)
             for n, line in enumerate(network.lines, 1)
             if not line.is_closed or takes == FLOW
         )
-        if takes == FLOW:
+        if takes != ARC:
             yield from names.places
     elif takes == CLOSED and len(before) == 1:
         yield from (

@@ -12,7 +12,7 @@ from ..analysis import trials_of
 from ..export import DRAWN, drawn, problem, table, taken
 from ..expressions import capacities
 from ..steps import DeskFault, Trial
-from ..worth import judge_greatest, left_without_all, losses, worst
+from ..worth import judge_greatest, left_without_all, losses, losses_of_places, worst, worst_places
 from .arguments import (
     WHERE,
     arcs_from,
@@ -26,15 +26,16 @@ from .arguments import (
     capped_where,
     last_closed,
     new_arc,
+    place_named,
 )
 from .context import Context
-from .grammar import CHANGES, COMMANDS, count_of, no_words, one_name
+from .grammar import CHANGES, COMMANDS, PLACES, count_of, no_words, one_name
 from .output import TextOutput, costs_told
 from .project_handlers import PROJECT_HANDLERS
 
 # From this many arcs on, the progress of a sweep is shown.
 MANY = 20
-# The number of arcs that `worst` lists.
+# The number of arcs or places that `worst` lists.
 MOST_WORST = 10
 
 
@@ -164,12 +165,21 @@ def _places(context: Context, words: list[str]) -> None:
 
 
 def _worst(context: Context, words: list[str]) -> None:
-    most = count_of(words, "worst") if words else MOST_WORST
-    context.output.worst(context.desk, *worst(context.desk, most))
+    desk, are_places = context.desk, words[:1] == [PLACES]
+    rest = words[are_places:]
+    most = count_of(rest, "worst") if rest else MOST_WORST
+    if are_places:
+        context.output.worst_places(desk, *worst_places(desk, most))
+    else:
+        context.output.worst(desk, *worst(desk, most))
 
 
 def _worth(context: Context, words: list[str]) -> None:
     desk = context.desk
+    place = place_named(desk, words)
+    if place:
+        context.output.worth_of_place(desk, *losses_of_places(desk, [place.entry]))
+        return
     numbers = arcs_of_name(desk, one_name(words, "worth"))
     found = losses(desk, numbers)
     together = left_without_all(desk, numbers) if len(numbers) > 1 else found[0].left

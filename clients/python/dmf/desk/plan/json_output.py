@@ -69,6 +69,13 @@ class JsonOutput(Output):
     def worst(self, desk: Desk, losses: list[Loss], more: int) -> None:
         self._write("worth", {**_state(desk), **_losses(desk, losses), "more": more})
 
+    def worst_places(self, desk: Desk, losses: list[Loss], more: int) -> None:
+        self._write("worth", {**_state(desk), **_losses_of_places(desk, losses), "more": more})
+
+    def worth_of_place(self, desk: Desk, loss: Loss) -> None:
+        said = {**_losses_of_places(desk, [loss]), "together": _number(desk, loss.left)}
+        self._write("worth", {**_state(desk), **said})
+
     def worth(self, desk: Desk, losses: list[Loss], together: Quantity) -> None:
         said = {**_losses(desk, losses), "together": _number(desk, together)}
         self._write("worth", {**_state(desk), **said})
@@ -118,12 +125,19 @@ def _state(desk: Desk) -> Json:
 def _losses(desk: Desk, losses: list[Loss]) -> Json:
     """Return what is lost without each of some arcs. `more` is how many others cost something, and
     `together` the value without all of these, if that was asked for."""
-    arcs = _arcs(desk, [it.arc for it in losses])
-    told = [
-        {"arc": arc, "without": _number(desk, it.left), "loss": _number(desk, it.loss)}
-        for arc, it in zip(arcs, losses)
-    ]
+    arcs = _arcs(desk, [it.number for it in losses])
+    told = [{"arc": arc, **_loss(desk, it)} for arc, it in zip(arcs, losses)]
     return {"losses": told, "more": 0, "together": None}
+
+
+def _losses_of_places(desk: Desk, losses: list[Loss]) -> Json:
+    """Return the same of places."""
+    told = [{"place": desk.network.names.node(it.number), **_loss(desk, it)} for it in losses]
+    return {"losses": told, "more": 0, "together": None}
+
+
+def _loss(desk: Desk, loss: Loss) -> Json:
+    return {"without": _number(desk, loss.left), "loss": _number(desk, loss.loss)}
 
 
 def _arcs(desk: Desk, numbers: list[int]) -> list[Json]:

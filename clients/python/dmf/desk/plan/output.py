@@ -48,7 +48,17 @@ class TextOutput(Output):
         self.tell(*_trial_lines(desk, trials))
 
     def worst(self, desk: Desk, losses: list[Loss], more: int) -> None:
-        self.tell(*_worst_lines(desk, losses, more))
+        names = desk.network.names
+        named = [(it, f"#{it.number} {names.arc(it.number)}") for it in losses]
+        self.tell(*_worst_lines(desk, named, more, "arc"))
+
+    def worst_places(self, desk: Desk, losses: list[Loss], more: int) -> None:
+        named = [(it, desk.network.names.node(it.number)) for it in losses]
+        self.tell(*_worst_lines(desk, named, more, "place"))
+
+    def worth_of_place(self, desk: Desk, loss: Loss) -> None:
+        label = desk.network.names.node(loss.number)
+        self.tell(f"shutting {label}: {_left_of(desk, loss.left)}")
 
     def worth(self, desk: Desk, losses: list[Loss], together: Quantity) -> None:
         self.tell(*_worth_lines(desk, losses, together))
@@ -180,35 +190,31 @@ def _scenario_lines(project: Scenarios) -> list[str]:
     return lines
 
 
-def _worst_lines(desk: Desk, losses: list[Loss], more: int) -> Iterator[str]:
-    """Yield a table of the worst arcs: the value without each, its loss, and its name."""
-    network = desk.network
+def _worst_lines(desk: Desk, named: list[tuple[Loss, str]], more: int, what: str) -> Iterator[str]:
+    """Yield a table of what is worst to lose: the value without each, its loss, and its name."""
     rows = [
-        [network.measure.title("without"), "loss", ""],
-        *(
-            [plain_text(it.left), plain_text(it.loss), f"#{it.arc} {network.names.arc(it.arc)}"]
-            for it in losses
-        ),
+        [desk.network.measure.title("without"), "loss", ""],
+        *([plain_text(it.left), plain_text(it.loss), name] for it, name in named),
     ]
-    if losses:
+    if named:
         first, second = (max(len(row[at]) for row in rows) for at in (0, 1))
         for left, loss, name in rows:
             yield f"  {left:>{first}}  {loss:>{second}}  {name}".rstrip()
     if more:
         yield f"  and {more} more"
-    elif not losses:
-        yield "  no arc alone costs anything to lose"
+    elif not named:
+        yield f"  no {what} alone costs anything to lose"
 
 
 def _worth_lines(desk: Desk, losses: list[Loss], together: Quantity) -> Iterator[str]:
     """Yield what closing the arcs of a name leaves: of several, closing each, and all of them."""
     names = desk.network.names
     if len(losses) == 1:
-        yield f"closing {names.short(losses[0].arc)}: {_left_of(desk, together)}"
+        yield f"closing {names.short(losses[0].number)}: {_left_of(desk, together)}"
         return
     yield f"{len(losses)} arcs have this name"
     for it in losses:
-        yield f"  closing #{it.arc} {names.arc(it.arc)}: {_left_of(desk, it.left)}"
+        yield f"  closing #{it.number} {names.arc(it.number)}: {_left_of(desk, it.left)}"
     both = "both" if len(losses) == 2 else f"all {len(losses)}"
     yield f"  closing {both}: {_left_of(desk, together)}"
 
