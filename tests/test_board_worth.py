@@ -215,10 +215,43 @@ def test_page(driver: Any) -> None:
         )
 
 
-def shown(page: Page) -> list[list[str]]:
+def test_places_on_the_page(driver: Any) -> None:
+    """The page lists the places that are worst to lose, and says what is left without the chosen
+    one before it is shut; after a change, and without its source, as well."""
+    with board(PIPES) as it:
+        page = Page(driver, it.address)
+        page.know_worth()
+        left = {name: greatest([one for one in water() if name not in one[:2]]) for name in PLACES}
+        inner = [name for name in PLACES if name not in ("Reservoir", "Harbour")]
+        costly = sorted((name for name in inner if left[name] < 165), key=lambda name: left[name])
+        assert shown(page, "worst-places-table") == [
+            [name, str(left[name]), str(165 - left[name])] for name in costly
+        ]
+        assert page.text("#worst-places-note").endswith("if one of these places is shut.")
+        driver.execute_script("document.querySelector('#worst-places-table tbody button').click()")
+        page.wait(lambda: page.text("#what h3") == costly[0])
+        unit = "litres per second"
+        page.wait(
+            lambda: page.text("#closing")
+            == f"Without {costly[0]}, {left[costly[0]]} of 165 {unit} is left."
+        )
+        it.do(what="close", arc=NAMES.index("Bridge pipe") + 1)
+        page.wait(lambda: page.value() == 155)
+        pipes = [one for one in water() if one.name != "Bridge pipe"]
+        less = greatest([one for one in pipes if costly[0] not in one[:2]])
+        page.wait(
+            lambda: page.text("#closing") == f"Without {costly[0]}, {less} of 155 {unit} is left."
+        )
+        it.do(what="shut", node=PLACES.index(costly[0]) + 1)
+        page.wait(lambda: page.value() == less)
+        page.wait(lambda: "It is shut." in page.text("#what"))
+        assert not driver.execute_script("return document.getElementById('closing')")
+
+
+def shown(page: Page, table: str = "worst-table") -> list[list[str]]:
     """The rows of the worst, without the ends of the pipes."""
     rows = page.driver.execute_script(
-        "return [...document.querySelectorAll('#worst-table tbody tr')].map(row => "
+        f"return [...document.querySelectorAll('#{table} tbody tr')].map(row => "
         "[...row.cells].map(it => it.textContent))"
     )
     return [[name.partition(",")[0], *numbers] for name, *numbers in rows]

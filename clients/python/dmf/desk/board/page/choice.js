@@ -26,6 +26,14 @@ export async function choose(what) {
 }
 
 /**
+ * Returns a cell with a place that a click selects.
+ * @param {{ node: number, name: string }} place
+ */
+export function pickPlace(place) {
+  return cell(button(place.name, () => choose({ node: place.node }), "link"));
+}
+
+/**
  * Returns a cell with an arc that a click selects. An arc that stands for a limit of a place is shown at that place.
  * @param {{ number: number, node: number, label?: string }} arc
  * @param {string} text

@@ -10,7 +10,7 @@ import { at, button, form, make, replace } from "./elements.js";
 import { isPart, showNear } from "./picture.js";
 import { act, ask, noun, present, units } from "./state.js";
 import { upper } from "./words.js";
-import { closingWords } from "./worth.js";
+import { closingWords, shuttingWords } from "./worth.js";
 
 export async function showChosen() {
   const chosen = theChoice();
@@ -19,7 +19,7 @@ export async function showChosen() {
     return;
   }
   // An arc that was added may no longer exist.
-  const told = await ask(chosen.arc ? `arc?number=${chosen.arc}` : `place?node=${chosen.node}`, undefined, true);
+  const told = await ask(address(chosen), undefined, true);
   if (chosen !== theChoice() || told === undefined) return;
   if (!told || told.replaced) {
     choose(null);
@@ -28,13 +28,16 @@ export async function showChosen() {
   replace(at("what"), chosen.arc ? aboutArc(told) : aboutPlace(told));
 }
 
-/** Says what is left without the selected arc, once that is known. All else stays, including what is being typed. */
+/** Says what is left without the selected arc or place, once that is known. All else stays, including what is being typed. */
 export async function showClosing() {
   const chosen = theChoice();
-  if (!chosen?.arc) return;
-  const told = await ask(`arc?number=${chosen.arc}`, undefined, true), place = document.getElementById("closing");
-  if (told && place && chosen === theChoice()) place.textContent = closingWords(told);
+  if (!chosen || !document.getElementById("closing")) return;
+  const told = await ask(address(chosen), undefined, true), shown = document.getElementById("closing");
+  if (told && shown && chosen === theChoice()) shown.textContent = chosen.arc ? closingWords(told) : shuttingWords(told);
 }
+
+/** @param {import("./state.js").Choice} chosen */
+const address = (chosen) => (chosen.arc ? `arc?number=${chosen.arc}` : `place?node=${chosen.node}`);
 
 /** @param {Arc} arc */
 function aboutArc(arc) {
@@ -103,7 +106,7 @@ function aboutPlace(place) {
   /** @type {HTMLElement[]} */
   const about = [make("h3", place.name), make("p", told), ...place.roles.filter((role) => !role.closed).flatMap(aboutRole)];
   if (place.shut) about.push(button("Open it again", () => act({ what: "open-place", node: place.node }, `${place.name} is open`)));
-  if (place.open) about.push(button("Shut it", () => act({ what: "shut", node: place.node }, `${place.name} is shut`)));
+  if (place.open) about.push(make("p", shuttingWords(place), { id: "closing" }), button("Shut it", () => act({ what: "shut", node: place.node }, `${place.name} is shut`)));
   if (isPart()) about.push(button("Show what is near it", () => showNear(place.node), "plain"));
   return [...about, adding(place)];
 }

@@ -6,7 +6,7 @@
  *   `way` is empty unless it leads both ways: ">" if it flows from tail to head, "<" if back, "-" if not at all; and `other_way` says what
  *   it can carry the other way, if that is something else; `there` and `back` are its capacities, if both ways are open
  * @typedef {{ node: number, name: string, in: string, out: string, roles: Arc[], is_source: boolean, is_sink: boolean, shut: boolean,
- *   open: boolean, side: boolean }} Place
+ *   open: boolean, side: boolean, without: string, lost: string }} Place
  * @typedef {{ turn: number, title: string, unit: string, noun: string, notes: string[], source: string, sink: string, value: string,
  *   arcs: number, given: number, places: number, kept_in: string, scenario: string, why_not: string, floor: number, offer: string,
  *   flows_follow: boolean, at: number, by: string,

@@ -1,16 +1,19 @@
 /**
- * What is left without each arc. The board computes that in the background for each new state, and the page asks until it is known.
+ * What is left without each arc and each place. The board computes that in the background for each new state, and the page asks until it
+ * is known.
  * @typedef {import("./state.js").Arc} Arc
- * @typedef {{ is_finding: boolean, is_known: boolean, worst: Arc[], more: number, losses: Record<string, string> }} Worth
+ * @typedef {{ node: number, name: string, without: string, lost: string }} LostPlace
+ * @typedef {{ worst: LostPlace[], more: number }} LostPlaces
+ * @typedef {{ is_finding: boolean, is_known: boolean, worst: Arc[], more: number, places: LostPlaces, losses: Record<string, string> }} Worth
  */
-import { pick } from "./choice.js";
+import { pick, pickPlace } from "./choice.js";
 import { at, fill, numberCell } from "./elements.js";
 import { colourByLoss } from "./legend.js";
 import { ask, caption, noun, present, units } from "./state.js";
 import { grouped, upper } from "./words.js";
 
 /** The first and the longest pause before the board is asked again, in milliseconds. */
-const SOON = 100, LATE = 2000;
+const SOON = 20, LATE = 2000;
 let asked = 0;
 /** @type {(() => unknown)[]} */
 const watchers = [];
@@ -34,7 +37,9 @@ export function findWorth() {
 function markOld(isOld) {
   at("worst").classList.toggle("old", isOld);
   at("worst").setAttribute("aria-busy", String(isOld));
-  if (isOld) at("worst-note").textContent = "These are from before the change. The new ones are being found ..";
+  if (!isOld) return;
+  at("worst-note").textContent = "These are from before the change. The new ones are being found ..";
+  at("worst-places-note").textContent = "";
 }
 
 /** @param {number} turn */
@@ -55,13 +60,28 @@ async function follow(turn) {
 
 /** @param {Worth} told */
 function show(told) {
-  const { worst, more } = told;
   at("worst").hidden = !told.is_known;
-  at("worst-table").hidden = !worst.length;
-  at("worst-note").textContent = !worst.length ? `No ${noun()} alone costs anything to lose.`
-    : `Of ${present().value}${units()}, so much is left if one of these is closed.${more ? ` ${grouped(more)} more cost something.` : ""}`;
-  fill("worst-table", caption(), [upper(noun()), "without it", "lost"],
-    worst.map((arc) => [pick(arc), numberCell(arc.without), numberCell(arc.lost)]));
+  showTable("worst", noun(), "one of these is closed", told.more, told.worst.map((arc) => ({ ...arc, cell: pick(arc) })));
+  const { worst, more } = told.places;
+  showTable("worst-places", "place", "one of these places is shut", more, worst.map((place) => ({ ...place, cell: pickPlace(place) })));
+}
+
+/**
+ * Shows a table of what is worst to lose, and the sentence above it.
+ * @param {string} id
+ * @param {string} what
+ * @param {string} lost what is done then
+ * @param {number} more how many others cost something
+ * @param {{ cell: HTMLTableCellElement, without: string, lost: string }[]} rows
+ */
+function showTable(id, what, lost, more, rows) {
+  const table = `${id}-table`, rest = more ? ` ${grouped(more)} more cost something.` : "";
+  at(table).hidden = !rows.length;
+  at(`${id}-note`).textContent = rows.length
+    ? `Of ${present().value}${units()}, so much is left if ${lost}.${rest}`
+    : `No ${what} alone costs anything to lose.`;
+  fill(table, caption(), [upper(what), "without it", "lost"],
+    rows.map((row) => [row.cell, numberCell(row.without), numberCell(row.lost)]));
 }
 
 /**
@@ -72,4 +92,15 @@ export function closingWords(arc) {
   const { value } = present();
   if (!arc.without) return "";
   return `Closing this: ${value} to ${arc.without}${units()}${arc.lost === "0" ? ", nothing lost." : "."}`;
+}
+
+/**
+ * Returns in words what is left without a place, or an empty text while that is not known.
+ * @param {import("./state.js").Place} place
+ */
+export function shuttingWords(place) {
+  if (!place.without) return "";
+  if (place.lost === "0") return `Without ${place.name}, nothing is lost.`;
+  const left = place.without === "0" ? "nothing" : `${place.without} of ${present().value}${units()}`;
+  return `Without ${place.name}, ${left} is left.`;
 }
