@@ -30,7 +30,7 @@ def test_found() -> None:
     assert {
         "bench/setting.py",
         "bench/run",
-        "examples/rota/arcs.py",
+        "examples/water/worst.py",
         "tools/dmf-names",
         "tools/friends/igraph",
     } <= names

@@ -88,7 +88,9 @@ def judge(lines: Iterator[str], top: Path, program: Path) -> None:
     *written, rest = ran.stdout.split(END)
     assert [*zip((command for command, _ in found), written)] == found
     # What a tool took for what, which it always tells.
-    told = [line for line in ran.stderr.splitlines() if ", capacity '" not in line]
+    told = [
+        line for line in ran.stderr.splitlines() if not re.search(", capacity '|: a roster: ", line)
+    ]
     assert (rest, told) == ("", [])
 
 

@@ -8,9 +8,8 @@ import csv
 import io
 import json
 import re
+import shutil
 import struct
-import subprocess
-import sys
 import time
 import zlib
 from collections import Counter
@@ -53,14 +52,8 @@ def supply(folder: Path) -> Desk:
 
 def rota(folder: Path) -> Desk:
     """The rota of a ward, in which somebody falls ill."""
-    arcs = subprocess.run(
-        [sys.executable, ROOT / "examples/rota/arcs.py"],
-        stdin=open(ROOT / "examples/rota/rota.csv"),
-        capture_output=True,
-        check=True,
-    ).stdout
-    (folder / "rota.csv").write_bytes(arcs)
-    desk = new_project(folder, "rota.csv", "Staff", "Rota")
+    shutil.copy(ROOT / "examples/rota/rota.csv", folder)
+    desk = new_project(folder, "rota.csv", "--shift", "8", "--daily", "1")
     desk.shut(desk.network.names.place("Ida"))
     return desk
 

@@ -24,7 +24,7 @@ SECONDS = 20
 PICTURES = {
     "town": "cat examples/town.max",
     "water": "tools/dmf-problem Reservoir Harbour <examples/water/pipes.csv",
-    "rota": "python3 examples/rota/arcs.py <examples/rota/rota.csv | tools/dmf-problem Staff Rota",
+    "rota": "tools/dmf-problem --shift 8 --daily 1 <examples/rota/rota.csv",
     "supply": (
         "grep -v 'East Depot' examples/supply/routes.csv"
         " | tools/dmf-problem --sources /dev/fd/3 --sinks examples/supply/orders.csv 3<<END\n"

@@ -21,7 +21,7 @@ _KEYWORDS = [
     (r"--ignore", "ignore="),
     (r"--missing unlimited", 'missing="unlimited"'),
     (r"--(missing|scale) ([0-9]+)", r"\1=\2"),
-    (r"--(velocity|tanks|tolerance)\b", r"\1="),
+    (r"--(velocity|tanks|tolerance|needs|shift|daily)\b", r"\1="),
     (r"--matrix", "matrix=True"),
     (r"--both-ways", "both_ways=True"),
     (r"--source NAME=LIMIT", "source={NAME: LIMIT}"),

@@ -6,7 +6,7 @@ from __future__ import annotations
 import argparse
 import os
 from collections.abc import Callable, Collection, Iterator, Mapping, Sequence
-from dataclasses import dataclass, field
+from dataclasses import dataclass, field, replace
 from decimal import Decimal
 from functools import cached_property
 from typing import Any, Optional, TypeVar
@@ -25,6 +25,7 @@ from .headings import ARCS, PLACE_COLUMNS, STATES, Form, spoken
 from .other_columns import Extra, extra_in, extra_of, left_out
 from .problem_builder import KINDS, NetworkTables, ends_alone, net_of, problem_text, term_of
 from .readers import Table
+from .roster_arcs import roster_tables
 from .row_states import lead
 from .setting_question import SettingQuestion
 from .sheet import Faults, Sheet, naming
@@ -112,7 +113,7 @@ def plan_of_sheet(
     """Return the plan of the table of arcs in a sheet, beside which other sheets may be of its
     places, and note the table. Raises what `load_tables` raises."""
     with naming(sheet.path):
-        table = read_arcs(sheet, wanted.reading)
+        table, others = _table_of(sheet, others, wanted)
     if stages:
         stages.table = table
     plan = NetworkTables(table, [], lead(table, both_ways=wanted.both_ways), wanted.scale)
@@ -130,6 +131,22 @@ def plan_of_sheet(
     for other in others:
         _add_beside(plan, other, wanted)
     return plan
+
+
+def _table_of(
+    sheet: Sheet, others: Sequence[Sheet], wanted: TableOptions
+) -> tuple[Table, Sequence[Sheet]]:
+    """Return the table of arcs in a sheet, and the sheets of its places. Raises a `TableFault`."""
+    reading = wanted.reading
+    roster = roster_tables(sheet, reading)
+    if roster is None:
+        return read_arcs(sheet, reading), others
+    if wanted.both_ways:
+        raise TableFault("the table is a roster, whose rows lead one way: leave out --both-ways")
+    # The titles are those of the roster, and its arcs have their own.
+    table = read_arcs(roster.arcs, replace(reading, titles={}, ignored=()))
+    roster.add_places(table)
+    return table, [roster.places]
 
 
 def _add_beside(plan: NetworkTables, sheet: Sheet, wanted: TableOptions) -> None:
@@ -252,6 +269,7 @@ def says_table(words: argparse.Namespace) -> bool:
         or bool(words.ignore or words.missing or words.matrix or words.tanks)
         or words.velocity is not None
         or words.tolerance is not None
+        or bool(words.needs or words.daily or words.shift is not None)
         or any(it is not None for it in given)
     )
 
@@ -273,6 +291,9 @@ def wanted_of(words: argparse.Namespace) -> TableOptions:
         words.velocity,
         words.tanks,
         words.tolerance or Decimal(0),
+        words.needs or "",
+        words.shift,
+        words.daily or "",
     )
     return TableOptions(
         reading,

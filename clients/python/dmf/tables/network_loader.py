@@ -18,7 +18,7 @@ from .keywords import naming_keywords
 from .loader import TableOptions, complete, load_tables, plan_of_sheet, split_path
 from .other_columns import extra_of
 from .problem_builder import NetworkTables, net_of
-from .setting_question import amount_of, tanks_of, velocity_of
+from .setting_question import amount_of, daily_of, shift_of, tanks_of, velocity_of
 from .sheet import Rows, Sheet, naming
 from .table_answers import FoldedColumns, InnerNode, with_room
 from .table_file import ReadOptions
@@ -86,6 +86,9 @@ def read_table(
     velocity: Union[Decimal, float, None] = None,
     tanks: str = "",
     tolerance: Union[Decimal, float] = 0,
+    needs: str = "",
+    shift: Union[Decimal, float, None] = None,
+    daily: Union[str, int] = "",
     program: Program = None,
     history: Optional[int] = None,
 ) -> TableNetwork:
@@ -127,6 +130,12 @@ def read_table(
         What the tanks of a network of EPANET are: "source" or "none".
     tolerance
         How far apart ends of lines on a map may lie that are one place, in the map's units.
+    needs
+        In a roster: the first text of the row that says how many people each shift needs.
+    shift
+        How much of what a person may work a shift takes, such as 8 hours.
+    daily
+        The most shifts of a day that one person works, or "all".
     program, history
         As those of `Network`.
 
@@ -153,6 +162,9 @@ def read_table(
         None if velocity is None else velocity_of(str(velocity)),
         tanks and tanks_of(tanks),
         amount_of(str(tolerance)),
+        needs,
+        None if shift is None else shift_of(str(shift)),
+        str(daily) and daily_of(str(daily)),
     )
     wanted = TableOptions(
         reading,

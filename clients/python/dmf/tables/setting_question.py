@@ -1,11 +1,12 @@
-"""Questions for what a file leaves open beside its columns: how fast water flows, and whether tanks
-give water."""
+"""Questions for what a file leaves open beside its columns: how fast water flows, whether tanks
+give water, and how long the shifts of a roster are."""
 
 from __future__ import annotations
 
 import argparse
 import re
-from collections.abc import Callable
+import shlex
+from collections.abc import Callable, Sequence
 from decimal import Decimal
 from typing import Any, NamedTuple
 
@@ -44,6 +45,21 @@ def tanks_of(word: str) -> str:
     return word
 
 
+def shift_of(word: str) -> Decimal:
+    """Read how long a shift is, which is above 0. Raises a ValueError."""
+    length = amount_of(word)
+    if not length:
+        raise ValueError("a shift is longer than 0")
+    return length
+
+
+def daily_of(word: str) -> str:
+    """Read how many shifts one person works in a day. Raises a ValueError."""
+    if word != "all" and not re.fullmatch("[1-9][0-9]{0,2}", word):
+        raise ValueError(f"not a whole number above 0, or all: {word}")
+    return word
+
+
 SETTINGS = {
     "velocity": Setting(
         "M/S", velocity_of, "m/s, a number above 0", (("1.5", "m/s, or another velocity"),)
@@ -58,6 +74,19 @@ SETTINGS = {
         ),
     ),
     "tolerance": Setting("DISTANCE", amount_of),
+    "needs": Setting("ROW", str, "the first text of the row"),
+    "shift": Setting(
+        "HOURS",
+        shift_of,
+        "a number above 0",
+        (("8", "as many hours, or another number in the unit of that column"),),
+    ),
+    "daily": Setting(
+        "SHIFTS",
+        daily_of,
+        "a whole number above 0, or all",
+        (("1", "nobody works more than one shift a day"), ("all", "a day has no limit")),
+    ),
 }
 
 
@@ -67,15 +96,15 @@ class SettingQuestion(TableFault):
     # A tool asks for it whatever table it is of.
     is_arcs = True
 
-    def __init__(self, reason: str, option: str) -> None:
+    def __init__(self, reason: str, option: str, answers: Sequence[tuple[str, str]] = ()) -> None:
         super().__init__(reason)
         self.option = option
-        self.answers = self.setting.choices
+        self.answers = answers or self.setting.choices
         # Whether a call of Python gets the question, which then names the keywords of the call.
         self.is_call = False
 
     def __reduce__(self) -> tuple[object, ...]:
-        return SettingQuestion, (self.reason, self.option), self.__dict__
+        return SettingQuestion, (self.reason, self.option, self.answers), self.__dict__
 
     @property
     def setting(self) -> Setting:
@@ -84,14 +113,14 @@ class SettingQuestion(TableFault):
 
     def lines(self) -> list[str]:
         """Return the question, and a line for each answer."""
-        shown = [(self._option(word), what) for word, what in self.setting.choices]
+        shown = [(self._option(word), what) for word, what in self.answers]
         width = max(len(option) for option, _ in shown)
         return [self.told(), *(f"  {option:{width}}  {what}" for option, what in shown)]
 
     def _option(self, word: str) -> str:
         if self.is_call:
             return f"{self.option}={word if word[:1].isdigit() else repr(word)}"
-        return f"--{self.option} {word}"
+        return f"--{self.option} {shlex.quote(word)}"
 
     def settle(self, words: argparse.Namespace, answer: str) -> None:
         """Put an answer among the arguments."""

@@ -19,7 +19,9 @@ class ReadOptions:
     `ignored` has the titles of columns that are read for nothing; and `is_matrix` says that rows
     are the places where arcs begin, and columns those where they end. In a network of EPANET water
     flows at a `velocity` in m/s, and `tanks` are `source` or `none`. Ends of lines on a map that
-    are not farther apart than `tolerance` are one place."""
+    are not farther apart than `tolerance` are one place. In a roster the row of needs begins with
+    `needs`, a shift takes `shift` of what a person may work, and a person works at most `daily`
+    shifts a day, a number or `all`."""
 
     titles: Mapping[str, str] = field(default_factory=dict)
     sign: str = ""
@@ -30,6 +32,9 @@ class ReadOptions:
     velocity: Optional[Decimal] = None
     tanks: str = ""
     tolerance: Decimal = Decimal(0)
+    needs: str = ""
+    shift: Optional[Decimal] = None
+    daily: str = ""
 
 
 @dataclass(frozen=True)

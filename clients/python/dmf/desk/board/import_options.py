@@ -8,12 +8,13 @@ from collections.abc import Iterator, Sequence
 from decimal import Decimal
 
 from ...tables.loader import split_path
+from ...tables.setting_question import SETTINGS
 from ...tables.titles import COLUMNS
 from .responses import LONGEST_TEXT, Json, WrongForm
 
 # The options that a page sets, each with its kind: a text, a list of texts, or yes and no. The text
 # of an option of which nothing is said is empty.
-TEXTS = (*COLUMNS, "decimal", "missing", "scale", "velocity", "tanks", "tolerance", "encoding")
+TEXTS = (*COLUMNS, "decimal", "missing", "scale", *SETTINGS, "encoding")
 LISTS = ("ignore", "source", "sink")
 FLAGS = ("matrix", "both_ways")
 SHEET = "sheet"

@@ -78,6 +78,9 @@ def new_project(
     velocity: Union[Decimal, float, None] = None,
     tanks: str = "",
     tolerance: Union[Decimal, float, None] = None,
+    needs: str = "",
+    shift: Union[Decimal, float, None] = None,
+    daily: Union[str, int] = "",
     program: Program = None,
 ) -> OpenProject:
     """Make a project of the table or the problem in a file, as `dmf-plan --keep` does.
@@ -95,7 +98,7 @@ def new_project(
         A place or several places, each perhaps with its limit, as in `Mill=12`.
     sources, sinks, node_limits, places, columns, decimal, scale, both_ways, encoding
         As those of `read_table`.
-    raw_names, missing, ignore, matrix, velocity, tanks, tolerance, program
+    raw_names, missing, ignore, matrix, velocity, tanks, tolerance, needs, shift, daily, program
         Likewise.
 
     Returns
@@ -135,6 +138,9 @@ def new_project(
         velocity=None if velocity is None else Decimal(str(velocity)),
         tanks=tanks,
         tolerance=None if tolerance is None else Decimal(str(tolerance)),
+        needs=needs,
+        shift=None if shift is None else Decimal(str(shift)),
+        daily=str(daily),
         ask=None,
         **{option: None if it is None else os.fspath(it) for option, it in tables.items()},
     )

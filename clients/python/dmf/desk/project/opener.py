@@ -36,7 +36,7 @@ from .storage import ProjectFile, created, read_project
 from .strict_json import ProjectFault
 
 # The options that are decimal numbers.
-NUMBERS = ("scale", "velocity", "tolerance")
+NUMBERS = ("scale", "velocity", "tolerance", "shift")
 # The most differing rows that are reported.
 MOST_TOLD = 20
 
@@ -114,7 +114,7 @@ def read_again(table: KeptTable, folder: str) -> LoadedProblem:
     options = table.options
     titles = {column: options[column] for column in COLUMNS if column in options}
     places = {option: os.path.join(folder, file.path) for option, file in table.places.items()}
-    scale, velocity, tolerance = (
+    scale, velocity, tolerance, shift = (
         Decimal(options[name]) if name in options else None for name in NUMBERS
     )
     wanted = TableOptions(
@@ -128,6 +128,9 @@ def read_again(table: KeptTable, folder: str) -> LoadedProblem:
             velocity,
             options.get("tanks", ""),
             tolerance or Decimal(0),
+            options.get("needs", ""),
+            shift,
+            options.get("daily", ""),
         ),
         options.get("encoding"),
         scale,

@@ -31,6 +31,9 @@ OPTIONS: dict[str, type] = {
     "velocity": str,
     "tanks": str,
     "tolerance": str,
+    "needs": str,
+    "shift": str,
+    "daily": str,
 }
 # A place by its name, or by the number of its node if its name is not its own; an arc as [FROM, TO,
 # NAME], with its place among several alike if there are some, or as what a place gives, takes or
