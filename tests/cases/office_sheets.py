@@ -131,7 +131,34 @@ READ: dict[str, Read] = {
         "from 'from', to 'to', capacity 'capacity'; kept: 'x1', 'y1', 'x2', 'y2'"
     ),
     "unit-cells.csv": Read("from 'From', to 'To', capacity 'Max flow' (l/s); kept: 'Length'"),
+    "troncons.csv": Read(
+        "from 'Nœud de départ', to 'Nœud d’arrivée', capacity 'Débit maximal (l/s)' (l/s); kept:"
+        " 'N° de tronçon', 'Ø (mm)'"
+    ),
+    "tramos-km.csv": Read(
+        "from 'Nodo de origen', to 'Nodo de destino', capacity 'Capacidad máxima (m³/s)' (m³/s);"
+        " kept: 'Tramo', 'Longitud (km)'"
+    ),
+    "dtv.csv": Read(
+        "from 'von Knotenpunkt', to 'nach Knotenpunkt', capacity 'Leistungsfähigkeit (Kfz/h)'"
+        " (Kfz/h); kept: 'Straßenabschnitt', 'DTV (Kfz/24h)'"
+    ),
+    "routers.csv": Read(
+        "from 'Router A', to 'Router B', capacity 'Link speed (Gbit/s)' (Gbit/s); kept:"
+        " 'Utilisation %', 'Provider'"
+    ),
+    "menge-2023.csv": Read(
+        "from 'von', to 'nach', capacity 'Kapazität (t/Tag)' (t/Tag); kept: 'Menge 2023 (t)'"
+    ),
+    "zeilenumbruch.csv": Read(
+        "from 'Von', to 'Nach', capacity 'Max. Durchfluss (l/s)' (l/s); kept: 'Baujahr', 'Material'"
+    ),
     # One column with numbers.
+    "pallets.csv": Read("from 'Depot', to 'Customer', capacity 'Max pallets', name 'Driver'"),
+    "trains.csv": Read(
+        "from 'from_station', to 'to_station', capacity 'max_trains_per_day', name 'id'; kept:"
+        " 'electrified'"
+    ),
     "pumpen.csv": Read("from 'von', to 'nach', capacity 'Pumpen'"),
     "trucks-only.csv": Read("from 'Depot', to 'Shop', capacity 'Lorries a day'"),
     "no-titles.csv": Read("there are no titles: from column 1, to column 2, capacity column 3"),
@@ -258,7 +285,18 @@ READ: dict[str, Read] = {
         ["as 'Status' says: line 5"],
     ),
     "check-valve.csv": Read("from 'From', to 'To', capacity 'Capacity', status 'Status'"),
+    "bilan.csv": Read(
+        "from 'De', to 'Vers', capacity 'Capacité (m³/h)' (m³/h), status 'État'",
+        CLOSED,
+        ["the titles are in line 3", "line 9 is a total", "as 'État' says: line 7"],
+    ),
     # Direction.
+    "caudal-sentido.csv": Read(
+        "from 'Desde', to 'Hasta', capacity 'Caudal (l/s)' (l/s), direction 'Sentido'; kept:"
+        " 'Observaciones'",
+        TWO_WAY,
+        ["as 'Sentido' says: line 6"],
+    ),
     "direction-both.csv": Read(
         "from 'From', to 'To', capacity 'Capacity', direction 'Direction'",
         TWO_WAY,
@@ -397,6 +435,10 @@ ASKED: dict[str, Asked] = {
     "capacity-normal-peak.csv": Asked(
         [WHICH, "--capacity 'Capacity normal'", "--capacity 'Capacity peak'"],
         {"columns": {"capacity": "Capacity peak"}},
+    ),
+    "existing-design.csv": Asked(
+        [WHICH, "--capacity 'Existing capacity (MGD)'", "--capacity 'Design capacity (MGD)'"],
+        {"columns": {"capacity": "Existing capacity (MGD)"}},
     ),
     "two-units.csv": Asked(
         [WHICH, "--capacity 'Capacity (l/s)'", "--capacity 'Capacity (m³/h)'"],

@@ -60,7 +60,7 @@ OTHERS = set(
     "cost costs kosten cout coste price preis length lange laenge longueur longitud distance"
     " diameter durchmesser dn diametre diametro x y z lat lon latitude longitude remark remarks"
     " bemerkung bemerkungen comment comments kommentar note notes notiz remarque observacion year"
-    " jahr".split()
+    " jahr baujahr".split()
 )
 
 
@@ -83,6 +83,8 @@ _PLACES = _words(
     "nombre nr no number code junction jct manhole mh schacht regard pozo knotenpunkt vertex city "
     "stadt ville ciudad location site place"
 )
+# Words that may stand between a place and an end, as in `Nœud de départ`.
+_JOINING = _words("de d du des del la le l of the")
 # In French and Spanish these stand before a place; elsewhere they are letters, or other words.
 _BEFORE_PLACES = {TAIL: "de", HEAD: "a"}
 # The last words of titles of two columns that are the two ends: `Node 1` and `Node 2`.
@@ -94,6 +96,7 @@ _LETTERS = [pair for pair in _PAIRS if pair[0].isalpha()]
 _CAPACITIES = _words(
     "capacity capacities cap kap kapazitat kapazitaet capacite capacidad upperbound obergrenze qmax"
     " maxflow maxq maxdurchfluss transportkapazitat leitungskapazitat forderkapazitat"
+    " leistungsfahigkeit"
 )
 _MOST = _words(
     "max maximum maximal maximaler maximale maximales maximo maxima maxi maximale zul zulassig "
@@ -251,6 +254,7 @@ def says_end(title: Title, role: str) -> bool:
     words, other = title.words, HEAD if role == TAIL else TAIL
     if words[:1] == [_BEFORE_PLACES[role]]:
         return bool(words[1:]) and _PLACES.issuperset(words[1:])
+    words = [word for word in words if word not in _JOINING]
     is_of_role = not _ENDS[role].isdisjoint(words) and _ENDS[other].isdisjoint(words)
     return is_of_role and (_ENDS[role] | _PLACES).issuperset(words)
 
