@@ -158,7 +158,7 @@ COMMANDS = {
     "report": Help(
         "report FILE",
         "Writes a report as a page whose name ends with .html: values, limits, steps, pictures, "
-        "and the arcs whose loss lowers the value most.",
+        "and the arcs and places whose loss lowers the value most.",
     ),
     "notes": Help(
         "notes [TEXT]",

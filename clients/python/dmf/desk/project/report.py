@@ -13,16 +13,18 @@ from collections.abc import Iterator
 from html import escape
 from pathlib import Path
 
-from ...quantity import magnitude
+from ...quantity import Quantity, magnitude
 from ...session import executable
 from ...session.base import Program
 from ...text.lexical import display
 from ...text.table_comments import DEMAND
 from ..analysis import trials_of
+from ..answers import LARGE
 from ..demands import limited_amounts
 from ..export import problem, taken
 from ..steps import DeskFault, Trial
 from ..workspace import Desk
+from ..worth import worst_places
 from .comparison import ArcDifference, compare
 from .records import ENDING, Scenario
 from .report_findings import Demand, Findings, Section, Tried
@@ -146,7 +148,17 @@ def _tried(desk: Desk) -> Tried:
         tuple(sorted(losses, key=lambda it: -it[1])),
         tuple(sorted(gains, key=lambda it: -it[1])),
         told,
+        _lost_places(desk),
     )
+
+
+def _lost_places(desk: Desk) -> tuple[tuple[str, Quantity], ...] | None:
+    """Return the places whose loss costs something, the greatest loss first, with what each loses;
+    None if the network is too large to ask."""
+    if len(desk.network.lines) >= LARGE:
+        return None
+    found, _ = worst_places(desk, len(desk.network.lines))
+    return tuple((desk.network.names.node(it.number), it.loss) for it in found)
 
 
 def _table_arcs(desk: Desk) -> int:

@@ -41,13 +41,15 @@ class Section:
 class Tried:
     """What the arcs mean for the value of a scenario, by their names: the losses if one alone is
     closed, the largest first, and the gains if a second one lies beside one. `said` says which were
-    tried."""
+    tried. `places` has the losses if one place alone is shut, or None if they were not asked for.
+    """
 
     scenario: str
     value: Quantity
     losses: tuple[tuple[str, Quantity], ...]
     gains: tuple[tuple[str, Quantity], ...]
     said: str
+    places: tuple[tuple[str, Quantity], ...] | None
 
 
 @dataclass(frozen=True)

@@ -6,6 +6,7 @@ import base64
 import time
 from collections.abc import Callable, Iterable, Iterator
 from html import escape
+from typing import NamedTuple
 
 from ... import __version__
 from ...quantity import EXACT, Quantity, moved, plain_text
@@ -196,34 +197,44 @@ def _differences(differences: tuple[ArcDifference, ...]) -> Iterator[str]:
     yield from _table([("", False), (BASE, False), ("here", False)], rows)
 
 
-def _trial_lines(found: Findings, tried: Tried) -> Iterator[str]:
+class _Column(NamedTuple):
+    """A table of what is lost or gained: its titles, its rows, how the value changes by a row, and
+    the sentence if there are none."""
+
+    title: str
+    word: str
+    rows: tuple[tuple[str, Quantity], ...]
+    sign: Callable[[Quantity, Quantity], Quantity]
+    none: str
+
+
+def _columns(tried: Tried) -> Iterator[_Column]:
+    """Yield the tables of what is worst to lose and best to have twice."""
+    none = "Closed alone, none costs anything."
+    yield _Column("closed", "loses", tried.losses, EXACT.subtract, none)
+    if tried.places is not None:
+        none = "Shut alone, no place costs anything."
+        yield _Column("place that is shut", "loses", tried.places, EXACT.subtract, none)
+    none = "A second one beside any of them brings nothing."
+    yield _Column("with a second one beside it", "gains", tried.gains, EXACT.add, none)
+
+
+def _trial_lines(tried: Tried) -> Iterator[str]:
     yield f"<h2>Worst to lose, best to have twice: {_text(tried.scenario)}</h2>"
-    yield f'<p class="faint">{_text(tried.said[:1].upper() + tried.said[1:])}.</p>'
-    columns: list[
-        tuple[
-            str,
-            str,
-            tuple[tuple[str, Quantity], ...],
-            Callable[[Quantity, Quantity], Quantity],
-            str,
-        ]
-    ] = [
-        ("closed", "loses", tried.losses, EXACT.subtract, "Closed alone, none costs anything."),
-        (
-            "with a second one beside it",
-            "gains",
-            tried.gains,
-            EXACT.add,
-            "A second one beside any of them brings nothing.",
-        ),
-    ]
+    told = tried.said[:1].upper() + tried.said[1:]
+    told += ". " + (
+        "What is lost without a place was not asked for"
+        if tried.places is None
+        else "The only source and the only sink are not among the places"
+    )
+    yield f'<p class="faint">{_text(told)}.</p>'
     yield '<div class="beside">'
-    for title, word, rows, sign, none in columns:
+    for title, word, rows, sign, none in _columns(tried):
         if not rows:
             yield f"<p>{none}</p>"
             continue
         cells = [
-            [_text(arc), plain_text(by), plain_text(sign(tried.value, by))] for arc, by in rows
+            [_text(name), plain_text(by), plain_text(sign(tried.value, by))] for name, by in rows
         ]
         titles = [(title, False), (word, True), ("then", True)]
         yield from ("<div>", *_table(titles, cells), "</div>")
@@ -237,7 +248,7 @@ def report_lines(found: Findings) -> Iterator[str]:
     for section in found.sections:
         yield from _section_lines(found, section)
     yield "</div>"
-    yield from _trial_lines(found, found.tried)
+    yield from _trial_lines(found.tried)
     yield "<h2>How it was reckoned</h2>"
     if found.assumed:
         yield "<p>Taken for granted when the table was read:</p><ul>"
