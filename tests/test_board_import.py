@@ -246,6 +246,23 @@ def test_velocity(tmp_path: Path) -> None:
         assert "--velocity 1.5 --tanks source" in view["command"]
 
 
+def test_roster(tmp_path: Path) -> None:
+    """A roster leaves two settings open: another length than the one that is proposed may be
+    written in its field. Each of the two can work one shift of 12 hours."""
+    text = "name,hours,Fri early,Fri late\npeople needed,,1,1\nAnna,12,x,x\nBen,24,x,x\n"
+    with importing(tmp_path, text, name="rota.csv") as it:
+        view = it.told("import")
+        shown = [setting["option"] for setting in view["settings"]]
+        assert view["question"]["option"] == "shift" and "shift" in shown and "daily" not in shown
+        view = said(it, shift="12")
+        assert [word for word, _ in view["question"]["choices"]] == ["1", "all"]
+        view = said(it, shift="12", daily="1")
+        assert view["answer"]["said"].startswith("24 hours can be sent from Anna and Ben to")
+        assert view["command"] == "dmf board rota.csv --shift 12 --daily 1"
+        (fault,) = said(it, shift="12", daily="0")["faults"]
+        assert "daily" in fault["text"]
+
+
 def test_problem(tmp_path: Path) -> None:
     """A problem says all of itself."""
     with importing(tmp_path, "p max 2 1\nn 1 s\nn 2 t\na 1 2 6\n", name="p.max") as it:

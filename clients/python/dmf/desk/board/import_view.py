@@ -130,15 +130,16 @@ def settings_view(reading: Reading, shown: Preview) -> list[Json]:
         settings.append((option, LABELS[option], [("", "not said"), *choices] if choices else []))
     if reading.words.tolerance or any(it.title == START_OF_LINE for it in shown.columns):
         settings.append(("tolerance", LABELS["tolerance"], []))
+    asked = getattr(reading.fault, "option", "")
     for option in ROSTER_SETTINGS:
-        if getattr(reading.words, option):
+        if option == asked or getattr(reading.words, option):
             settings.append((option, LABELS[option], []))
     if not sheets:
         settings.append(("encoding", "Encoding", []))
     return [{"option": it, "label": label, "choices": some} for it, label, some in settings]
 
 
-# The settings of rosters, which are shown once something was said of them.
+# The settings of rosters, each of which is shown when it is asked for, or was said.
 ROSTER_SETTINGS = ("needs", "shift", "daily")
 LABELS = {
     "velocity": "Velocity of water (m/s)",
