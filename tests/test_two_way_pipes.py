@@ -14,6 +14,7 @@ from typing import NamedTuple
 
 import networkx
 import pytest
+from client_shared import dmf
 from desk_shared import ROOT, run
 from dmf.desk.export import problem, table
 from dmf.desk.project.comparison import compare
@@ -154,6 +155,22 @@ def told(tmp_path: Path, typed: str, *words: str) -> list[str]:
     ran = run("dmf-plan", *words, f"{tmp_path}/main.csv", "A", "D", typed=typed)
     assert ran.returncode == 0, ran.stderr
     return ran.stdout.splitlines()
+
+
+def test_both_ways_in_python() -> None:
+    """The name of a pipe stands for two arcs in Python, and the refusal says how to name each."""
+    table = {"from": ["A", "B"], "to": ["B", "C"], "capacity": [3, 4], "name": ["P1", "P2"]}
+    with dmf.read_table(table, both_ways=True, source="A", sink="C") as network:
+        with pytest.raises(dmf.AmbiguousArc) as caught:
+            network.close("P2")
+        assert str(caught.value) == (
+            "2 open arcs have the key or the ends 'P2': <Arc 3: 'B' to 'C', 'P2'>, <Arc 4: 'C' to "
+            "'B', 'P2'>; they are the two ways of one pipe: change each by its ends, ('B', 'C') "
+            "and ('C', 'B')"
+        )
+        for ends in ("B", "C"), ("C", "B"):
+            network.close(ends)
+        assert network.solve().value == 0
 
 
 def test_plan(tmp_path: Path) -> None:

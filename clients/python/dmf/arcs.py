@@ -177,8 +177,18 @@ def one_of(found: list[Arc[Node]], key: Hashable, state: str = "open") -> Arc[No
         some = ", ".join(map(repr, found[:9])) + ", .." * (len(found) > 9)
         raise AmbiguousArc(
             f"{len(found)} {state} arcs have the key or the ends {shown_value(key)}: {some}"
+            f"{_each_way(found)}"
         )
     return found[0]
+
+
+def _each_way(found: list[Arc[Node]]) -> str:
+    """Return how to name either of two arcs that are the two ways of a pipe; empty for others."""
+    ends = {(arc.tail, arc.head) for arc in found}
+    if len(found) != 2 or len(ends) != 2 or (found[0].head, found[0].tail) not in ends:
+        return ""
+    ways = " and ".join(shown_value((arc.tail, arc.head)) for arc in found)
+    return f"; they are the two ways of one pipe: change each by its ends, {ways}"
 
 
 class OpenArcs(Sequence[Arc[Node]], Generic[Node]):
