@@ -161,6 +161,11 @@ class Made:
     given: dict[str, Any]
 
 
+def named(column: tuple[str, str], ward: str) -> str:
+    """The name of a shift in a ward."""
+    return " ".join(column) + (f", {ward}" if ward else "")
+
+
 def made(chance: random.Random) -> Made:
     """A roster of one ward or of two, in which somebody may work in both."""
     words = LANGUAGES[chance.choice([*LANGUAGES])]
@@ -174,7 +179,6 @@ def made(chance: random.Random) -> Made:
     mark = chance.choice(words["marks"])
     others = [("remark", "")] * (chance.random() < 0.4)
     seen = Ward()
-    named = lambda column, ward: f"{column[0]} {column[1]}" + (f", {ward}" if ward else "")
     needs = {ward: {column: chance.randint(0, 3) for column in columns} for ward in wards}
     for ward in wards:
         seen.needs.update(
