@@ -34,6 +34,7 @@ from dmf.tables.loader import LoadedProblem
 FORMS: list[tuple[str, Optional[bytes], str]] = [
     ("picture", None, "expected the parameters ['near'], got []"),
     ("picture?near=x", None, "near must be a whole number"),
+    ("picture?near=&form=x", None, "form must be a whole number"),
     ("arc?number=1&number=2", None, "a parameter of the address is given twice"),
     ("arc?number", None, "the parameters of the address must have the form NAME=TEXT"),
     ("state?x=1", None, "expected the parameters []"),

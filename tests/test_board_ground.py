@@ -29,8 +29,9 @@ PIXELS = (
     "const ground = arguments[1];"
     + SPOT
     + """
-const pen = document.getElementById("ground").getContext("2d");
-const near = pen.getImageData(right - 2, down - 2, 5, 5).data;
+const canvas = document.getElementById("ground"), from = canvas.getBoundingClientRect();
+const [aside, below] = [host.left + right - from.left, host.top + down - from.top];
+const near = canvas.getContext("2d").getImageData(aside - 2, below - 2, 5, 5).data;
 return Array.from({ length: 25 }, (_, place) => [...near.slice(4 * place, 4 * place + 3)]);
 """
 )
@@ -201,6 +202,42 @@ def test_drawn(driver: Any, tmp_path: Path, request: pytest.FixtureRequest, side
         driver.execute_cdp_cmd("Emulation.clearDeviceMetricsOverride", {})
         driver.execute_cdp_cmd("Emulation.setEmulatedMedia", {"features": []})
         driver.get("about:blank")
+
+
+INK = """
+const canvas = document.getElementById("ground");
+if (canvas.hidden) return 0;
+const { data } = canvas.getContext("2d").getImageData(0, 0, canvas.width, canvas.height);
+return data.filter((part, at) => at % 4 === 3 && part > 0).length;
+"""
+
+
+def test_without_graphviz(driver: Any, tmp_path: Path, monkeypatch: pytest.MonkeyPatch) -> None:
+    """Without Graphviz a map is drawn all the same, also a small one, and without a map only the
+    picture is missing. The page says what installs Graphviz."""
+    words = city(tmp_path, 5)
+    programs = tmp_path / "programs"
+    programs.mkdir()
+    for program in Path("/usr/bin").iterdir():
+        if program.name not in ("dot", "neato", "sfdp"):
+            (programs / program.name).symlink_to(program)
+    monkeypatch.setenv("PATH", str(programs))
+    for given, is_drawn in (words, True), (words[2:], False):
+        with board(*given) as it:
+            driver.get(it.address)
+            page = Page.__new__(Page)
+            page.driver = driver
+            page.wait(lambda: "apt install graphviz" in page.text("#drawn-note"))
+            page.settle()
+            page.write("#text", "right 2 2")
+            page.choose_found("right 2 2")
+            driver.execute_async_script("requestAnimationFrame(() => setTimeout(arguments[0], 50))")
+            assert (driver.execute_script(INK) > 2_000) == is_drawn
+            before = page.value()
+            page.press("Close it")
+            page.wait(lambda: page.text("#what p").endswith("It is closed."))
+            assert page.undo() == before
+            driver.get("about:blank")
 
 
 def test_pictures(driver: Any, tmp_path: Path, writes: bool) -> None:

@@ -7,6 +7,7 @@ import shutil
 from pathlib import Path
 from typing import Any
 from urllib.parse import quote
+from xml.etree import ElementTree
 
 import pytest
 from board_running import board
@@ -15,6 +16,7 @@ from test_board_ground import city
 from test_board_view import spots
 
 pytestmark = pytest.mark.seconds(10)
+SVG = "{http://www.w3.org/2000/svg}"
 
 
 def kept(project: Path) -> dict[str, list[float]]:
@@ -160,3 +162,52 @@ def test_no_picture(
         picture = it.told("picture?near=")
         assert (picture["svg"], picture["reason"]) == ("", f"Graphviz did not draw it: {told}")
         assert it.end() == 130
+
+
+def ovals(svg: str) -> dict[str, tuple[float, float, float, float]]:
+    """Where the ovals of places lie in a picture, and how far they reach, by the places' names."""
+    found = {}
+    for group in ElementTree.fromstring(svg).iter(f"{SVG}g"):
+        texts, oval = group.findall(f"{SVG}text"), group.findall(f"{SVG}ellipse")
+        if group.get("class", "").startswith("node"):
+            name, last = str(texts[0].text), oval[-1]
+            x, y, right, down = (float(last.get(it, "")) for it in ("cx", "cy", "rx", "ry"))
+            found[name] = x, y, right, down
+    return found
+
+
+@pytest.mark.parametrize("form", [54, 80, 100, 160, 240])
+def test_fits_the_window(form: int) -> None:
+    """Places are laid out in the form of the window: from left to right or, if that is high, from
+    top to bottom, without overlaps. No other window and no step moves them."""
+    with board(PIPES) as it:
+        svg = it.told(f"picture?near=&form={form}")["svg"]
+        found = ovals(svg)
+        _, _, wide, high = map(float, (ElementTree.fromstring(svg).get("viewBox") or "").split())
+        assert 1 / 1.5 < wide / high / (form / 100) < 1.5
+        axis = 0 if form > 100 else 1
+        ends = [found[name][axis] for name in ("Reservoir", "Harbour")]
+        assert ends[0] == min(it[axis] for it in found.values()) and ends[1] == max(
+            it[axis] for it in found.values()
+        )
+        listed = [*found.values()]
+        for at, (x, y, right, down) in enumerate(listed):
+            for other in listed[at + 1 :]:
+                assert abs(x - other[0]) > right + other[2] or abs(y - other[1]) > down + other[3]
+        turned = 70 if form > 100 else 200
+        other = ovals(it.told(f"picture?near=&form={turned}")["svg"])
+        assert other != found
+        it.do(what="close", arc=3)
+        again = [ovals(it.told(f"picture?near=&form={one}")["svg"]) for one in (form, turned)]
+        assert again == [found, other]
+
+
+def test_one_form_if_kept(tmp_path: Path) -> None:
+    """Where places lie that a project has kept, they lie in each window."""
+    project_of(tmp_path)
+    with board("--keep", str(tmp_path / "pipes.csv")) as it:
+        found = ovals(it.told("picture?near=&form=60")["svg"])
+        assert it.end() == 130
+    with board(str(tmp_path / "pipes.dmf.json")) as it:
+        for form in 160, 60:
+            assert ovals(it.told(f"picture?near=&form={form}")["svg"]) == found

@@ -22,6 +22,7 @@ from dmf.desk.project.scenarios import project_of
 from dmf.desk.workspace import Desk
 from project_played import played, state
 from project_shared import named, supply_project, water_project
+from test_board_labels import LABELS
 
 pytestmark = pytest.mark.seconds(20)
 SVG = "{http://www.w3.org/2000/svg}"
@@ -37,6 +38,15 @@ ROWS = """
 const rows = [...document.querySelectorAll("#compare-table tbody tr")];
 return rows.map((row) => [...row.cells].slice(0, 3).map((cell) => cell.textContent));
 """
+
+
+# The same of the labels of a comparison's picture, which lies in a card that scrolls.
+COMPARED = (
+    LABELS.replace("#picture", "#compare-picture")
+    .replace('["head", "foot", "panel", "fold"]', "[]")
+    .replace("left: 0, top: 0", "left: -1e6, top: -1e6")
+    .replace("right: innerWidth, bottom: innerHeight", "right: 1e6, bottom: 1e6")
+)
 
 
 class ScenarioPage(Page):
@@ -415,8 +425,8 @@ def test_report(water: Board, tmp_path: Path) -> None:
 
 def test_it_fits(driver: Any, water: Board, writes: bool) -> None:
     """On a wide screen, a narrower one and a phone, in light and dark, a comparison is no wider
-    than the page, and its letters can be read. The picture for the documents is made at least, and
-    with --write put."""
+    than the page, its letters can be read, and no label lies on anything. The picture for the
+    documents is made at least, and with --write put."""
     heights = (
         "return [...document.querySelectorAll('#compare-picture text')].filter((it) => "
         "it.checkVisibility()).map((it) => "
@@ -439,6 +449,8 @@ def test_it_fits(driver: Any, water: Board, writes: bool) -> None:
         )
         assert seen == wide
         assert min(driver.execute_script(heights)) >= 11
+        count, wrong = driver.execute_script(COMPARED)
+        assert count > 15 and wrong == [], wrong[:5]
     left, top, wide, high = driver.execute_script(
         "const it = document.getElementById('compared-shown').getBoundingClientRect(); return "
         "[it.left, it.top + scrollY, it.width, it.height]"

@@ -26,14 +26,17 @@ from ..steps import DeskFault
 from ..workspace import Desk
 
 # The approximate size of a place, in points, and the number of spots that are tried around the best
-# one.
+# one; and how far apart they are, in heights of a place, first and where all of these are taken.
 WIDE, HIGH, MOST_SPOTS = 120.0, 50.0, 400
+FARTHER = 0.5, 2.0, 8.0
 # The most places that are drawn in layers of any shape; the greatest ratio of the layers' length to
 # their height, or the reverse, with more places; and the forces that spread out all others.
 MOST_LAYERED, MOST_LONG = 40, 2.3
 FORCES = "K=1; repulsiveforce=1.4; smoothing=triangle; overlap=true"
-# The ratio of a window's width to its height, and the most by which a picture is stretched to it.
-WINDOW, MOST_STRETCHED = 1.4, 2.2
+# The ratio of a window's width to its height, if it is not known; the most by which a picture is
+# stretched to it; up to which ratio of their forms a picture fits a window as it is; and up to
+# which form of a window places may lie from top to bottom.
+WINDOW, MOST_STRETCHED, FITS, TALL = 1.4, 2.2, 1.25, 1.2
 # The distance between parts of the network that are not connected, in points.
 APART = 200.0
 
@@ -71,12 +74,14 @@ class Places:
     """The spots of places, by their nodes, and the routes between them that were drawn so far. A
     place that was made has its spot by its name, since its node may be another place's in another
     state: `called` has the names of those that were made, by their nodes, and `apart` the spots of
-    those that are not there now."""
+    those that are not there now. `form` is how many times as wide as high the window is in which
+    they are put first."""
 
     spots: dict[int, Spot] = field(default_factory=dict)
     routes: dict[Way, Route] = field(default_factory=dict)
     called: dict[int, str] = field(default_factory=dict)
     apart: dict[str, Spot] = field(default_factory=dict)
+    form: float = WINDOW
 
     def call(self, made: Mapping[int, str]) -> None:
         """Take as the places that were made these, by their nodes."""
@@ -107,11 +112,11 @@ class Places:
     def _put_apart(self, new: list[int], ways: list[Way], text: str) -> str:
         """Put places, none of which is known yet, as Graphviz does best, beside those that are
         known."""
-        found, drawn = laid_out("dot", text, "-Tsvg")
-        # A drawing tells them in hundredths, and a layout in five digits.
-        found.spots = {int(node): Spot(float(x), -float(y)) for node, x, y in _DRAWN.findall(drawn)}
-        if len(new) > MOST_LAYERED and not 1 / MOST_LONG < _form(found.spots.values()) < MOST_LONG:
-            found, drawn = Places(spread_out(text, ways)), ""
+        found, drawn = _layered(text, self.form)
+        if len(new) > MOST_LAYERED and _misfit(found, self.form) > MOST_LONG:
+            found, drawn = Places(spread_out(text, ways, self.form)), ""
+        elif _misfit(found, self.form) > FITS:
+            found, drawn = Places(_stretched(found.spots, self.form)), ""
         right = max((spot.x for spot in self.spots.values()), default=-APART)
         left = min((spot.x for spot in found.spots.values()), default=0.0)
         by = right + APART - left if self.spots else 0.0
@@ -158,7 +163,8 @@ class _FreeSpots:
     def free(self, wanted: Spot, points: Sequence[Spot] = ()) -> Spot:
         """Take and return the nearest spot found at which a place overlaps no other and, if there
         is one, none of these points."""
-        spots = [spot for spot in _around(wanted) if self._is_free(spot)]
+        found = ([it for it in _around(wanted, by) if self._is_free(it)] for by in FARTHER)
+        spots = next(filter(None, found), [])
         clear = (spot for spot in spots if not any(_covers(spot, it) for it in points))
         spot = next(clear, spots[0] if spots else wanted)
         self._take(spot)
@@ -180,10 +186,11 @@ def _covers(spot: Spot, point: Spot) -> bool:
     return abs(spot.x - point.x) < WIDE / 2 and abs(spot.y - point.y) < HIGH / 2
 
 
-def _around(spot: Spot) -> Iterator[Spot]:
-    """Yield spots on a spiral, from its middle outwards."""
+def _around(spot: Spot, by: float) -> Iterator[Spot]:
+    """Yield spots on a spiral, from its middle outwards, this many times as far apart as places are
+    high."""
     for step in range(MOST_SPOTS):
-        turn, away = step * 2.4, math.sqrt(step) * HIGH / 2
+        turn, away = step * 2.4, math.sqrt(step) * HIGH * by
         yield Spot(spot.x + 1.6 * away * math.cos(turn), spot.y + away * math.sin(turn))
 
 
@@ -207,13 +214,44 @@ def _form(spots: Iterable[Spot]) -> float:
     """Return how many times as long as high a picture is."""
     listed = list(spots)
     wide, high = (
-        max(side) - min(side) + WIDE
-        for side in ([spot.x for spot in listed], [spot.y for spot in listed])
+        max(side) - min(side) for side in ([it.x for it in listed], [it.y for it in listed])
     )
-    return wide / high
+    return (wide + WIDE) / (high + HIGH)
 
 
-def spread_out(text: str, ways: Iterable[Way]) -> dict[int, Spot]:
+def _misfit(places: Places, form: float) -> float:
+    """Return by what factor places are too long or too high for a window of this form."""
+    by = _form(places.spots.values()) / form
+    return max(by, 1 / by)
+
+
+def _layered(text: str, form: float) -> tuple[Places, str]:
+    """Return places in layers, and the drawing: from left to right or, if they are too long for a
+    window that is about as high as wide or higher, from top to bottom."""
+    found = _drawn_layers(text)
+    if form < TALL and _misfit(found[0], form) > MOST_STRETCHED:
+        downwards = _drawn_layers(text.replace("rankdir=LR", "rankdir=TB", 1))
+        found = min(found, downwards, key=lambda it: _misfit(it[0], form))
+    return found
+
+
+def _drawn_layers(text: str) -> tuple[Places, str]:
+    found, drawn = laid_out("dot", text, "-Tsvg")
+    # A drawing tells them in hundredths, and a layout in five digits.
+    found.spots = {int(node): Spot(float(x), -float(y)) for node, x, y in _DRAWN.findall(drawn)}
+    return found, drawn
+
+
+def _stretched(spots: Mapping[int, Spot], form: float) -> dict[int, Spot]:
+    """Return spots further apart, upwards or to the right, towards the form of a window."""
+    by = _form(spots.values()) / form
+    right, up = (min(MOST_STRETCHED, max(1.0, factor)) for factor in (1 / by, by))
+    return {
+        node: Spot(round(spot.x * right, 2), round(spot.y * up, 2)) for node, spot in spots.items()
+    }
+
+
+def spread_out(text: str, ways: Iterable[Way], form: float = WINDOW) -> dict[int, Spot]:
     """Return where places lie that attract their neighbours, with most arcs from left to right, in
     the form of a window. Layers of as many would be a strip."""
     begun = text.rstrip().removesuffix("}") + f"  notranslate=true; splines=false; {FORCES}\n"
@@ -225,7 +263,7 @@ def spread_out(text: str, ways: Iterable[Way]) -> dict[int, Spot]:
         node: Spot((complex(*spot) * turn).real, (complex(*spot) * turn).imag)
         for node, spot in spots.items()
     }
-    by = min(MOST_STRETCHED, max(1 / MOST_STRETCHED, _form(turned.values()) / WINDOW))
+    by = min(MOST_STRETCHED, max(1 / MOST_STRETCHED, _form(turned.values()) / form))
     pins = "".join(
         f'  {node} [pos="{spot.x:.2f},{spot.y * by:.2f}"]\n' for node, spot in turned.items()
     )

@@ -3,6 +3,7 @@ looks."""
 
 from __future__ import annotations
 
+import shutil
 from collections import defaultdict
 
 from ..export import MOST_DRAWN
@@ -35,8 +36,9 @@ class Overview:
 
     @property
     def is_there(self) -> bool:
-        """Return True if it shows more than a picture does."""
-        return self._is_known and len(self._desk.network.pictured()) > MOST_DRAWN
+        """Return True if it shows more than a picture does, which Graphviz draws."""
+        shows_more = len(self._desk.network.pictured()) > MOST_DRAWN
+        return self._is_known and (shows_more or not shutil.which("neato"))
 
     def ground(self) -> Json:
         """Return what no step changes: each place with its name, how far it lies to the right and

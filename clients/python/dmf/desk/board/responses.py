@@ -87,10 +87,14 @@ def whole(text: str, name: str) -> int:
     return int(text)
 
 
-def judge_words(words: dict[str, str], wanted: tuple[str, ...]) -> None:
-    """Raise a `WrongForm` if the parameters of an address are not these."""
-    if set(words) != set(wanted):
-        raise WrongForm(f"expected the parameters {list(wanted)}, got {sorted(words)}")
+def judge_words(
+    words: dict[str, str], wanted: tuple[str, ...], optional: tuple[str, ...] = ()
+) -> None:
+    """Raise a `WrongForm` if the parameters of an address are not these, with or without the
+    optional ones."""
+    needed = [name for name in wanted if name not in optional]
+    if {*words}.difference(optional) != {*needed}:
+        raise WrongForm(f"expected the parameters {needed}, got {sorted(words)}")
 
 
 def judge_fields(content: Json, form: Fields) -> None:

@@ -60,6 +60,8 @@ from .views import (
 from .worth_finder import WorthFinder
 
 MOST_SWEPT = 5_000
+# The forms of windows for which places are laid out, in hundredths of the height.
+FORMS = 50, 70, 100, 140, 200, 280
 Keep = Callable[[str, Desk], Desk]
 CHANGED = "the network has changed in another tab: look again"
 STOPPED = "it was stopped"
@@ -77,13 +79,15 @@ class Effect(Enum):
 
 class PageRoute(NamedTuple):
     """A route: the fields of its requests, with the type of each; its handler; its effect; whether
-    it can be stopped; and the function that checks a posted request, if it is posted."""
+    it can be stopped; the function that checks a posted request, if it is posted; and the fields
+    that an address may leave out."""
 
     fields: Fields
     handler: Callable[..., Any]
     effect: Effect = Effect.READ
     can_stop: bool = False
     judge: Callable[[Json], None] | None = None
+    optional: tuple[str, ...] = ()
 
 
 class Board:
@@ -117,6 +121,10 @@ class Board:
         places.call(desk.network.names.made)
         places.spots.update({**kept_spots(desk), **spots})
         places.apart.update(spots_apart(desk))
+        # Unless some positions are known, each form of a window has a picture: the first one that
+        # is shown is that of the board.
+        self._is_laid_out = not places.spots
+        self._pictures: dict[int, Picture] = {}
         self._beginning = Beginning(desk)
         self._looks = Looks(desk, self._beginning)
         self._overview = Overview(desk, self.picture.places, self._looks)
@@ -160,7 +168,7 @@ class Board:
         route = ROUTES.get(path)
         if route is None or route.judge:
             return answer(NO_PAGE, 404)
-        judge_words(words, tuple(route.fields))
+        judge_words(words, tuple(route.fields), route.optional)
         # What can be stopped is not tried again.
         tries, needs_flows = 1 if route.can_stop else 2, path != "state"
         return self._judged(partial(self._read, route, words), tries, needs_flows)
@@ -168,7 +176,7 @@ class Board:
     def _read(self, route: PageRoute, words: Mapping[str, str]) -> Made:
         """Return what a route reads, by the words of an address."""
         fields: dict[str, Any] = dict(words)
-        for name in (name for name, kind in route.fields.items() if kind is int):
+        for name in (it for it in words if route.fields[it] is int):
             fields[name] = whole(words[name], name)
         if "turn" in fields:
             self._judge_turn(fields.pop("turn"))
@@ -275,7 +283,7 @@ class Board:
                 continue
             with contextlib.suppress(Exception):
                 words = dict(parse_qsl(query, keep_blank_values=True))
-                judge_words(words, tuple(route.fields))
+                judge_words(words, tuple(route.fields), route.optional)
                 told = self._read(route, words)
                 found[address] = {"turn": self.desk.turn, "told": "", **cast(Json, told)}
         return found
@@ -321,11 +329,23 @@ class Board:
     def _near(self, near: str) -> tuple[int, ...]:
         return self.desk.network.names.place_of(whole(near, "near")) if near else ()
 
-    def _picture(self, near: str) -> Json:
+    def _picture_in(self, form: int) -> Picture:
+        """Return the picture for a window that is as wide as so many hundredths of its height; 0 if
+        that is not known."""
+        if not form or not self._is_laid_out:
+            return self.picture
+        known = min(FORMS, key=lambda it: max(it / form, form / it))
+        if known not in self._pictures:
+            made = Picture(self.desk) if self._pictures else self.picture
+            made.places.form = known / 100
+            self._pictures[known] = made
+        return self._pictures[known]
+
+    def _picture(self, near: str, form: int = 0) -> Json:
         nodes = self._near(near)
         svg, reason, arcs = "", "", self._nearby.arcs(nodes)
         try:
-            svg = self.picture.svg(nodes, arcs)
+            svg = self._picture_in(form).svg(nodes, arcs)
         except NoPicture as fault:
             reason = str(fault)
         self._keep_places()
@@ -348,9 +368,9 @@ class Board:
             with contextlib.suppress(DeskFault):
                 keep_spots(self.desk, spots)
 
-    def _picture_file(self, near: str) -> Response:
+    def _picture_file(self, near: str, form: int = 0) -> Response:
         nodes = self._near(near)
-        svg = self.picture.svg(nodes, self._nearby.arcs(nodes), to_take=True)
+        svg = self._picture_in(form).svg(nodes, self._nearby.arcs(nodes), to_take=True)
         return Response(200, "image/svg+xml", taken(self.desk, svg.encode()), "plan.svg")
 
     def _table_file(self) -> Response:
@@ -405,6 +425,7 @@ def _act(act: BoardAct) -> PageRoute:
 
 TURN: Fields = {"turn": int}
 NEAR: Fields = {"near": str}
+FORM: Fields = {"form": int}
 TWO: Fields = {"one": str, "two": str}
 PART: Fields = {"first": int, "count": int}
 ROWS: Fields = {"filter": str, "sort": str, **PART}
@@ -413,7 +434,7 @@ SWEEP: Fields = {"arcs": list, **TURN}
 ROUTES = {
     "turn": PageRoute({}, lambda board: {}),
     "state": PageRoute({}, Board._state),
-    "picture": PageRoute(NEAR, Board._picture),
+    "picture": PageRoute({**NEAR, **FORM}, Board._picture, optional=(*FORM,)),
     "ground": PageRoute({}, Board._ground),
     "looks": PageRoute({}, Board._looks_of_all),
     "arc": PageRoute({"number": int}, lambda board, number: arc_view(board.desk, number)),
@@ -425,7 +446,7 @@ ROUTES = {
     "rows": PageRoute(ROWS, Board._rows),
     "numbers": PageRoute(ROWS, Board._numbers),
     "scenarios": PageRoute({}, lambda board: scenarios_view(board.desk)),
-    "picture.svg": PageRoute({**NEAR, **TURN}, Board._picture_file),
+    "picture.svg": PageRoute({**NEAR, **FORM, **TURN}, Board._picture_file, optional=(*FORM,)),
     "plan.csv": PageRoute(TURN, Board._table_file),
     "problem.max": PageRoute(TURN, Board._problem_file),
     # What takes the session to other scenarios, and can be stopped.

@@ -6,6 +6,7 @@
  * @typedef {{ turn: number, first: Standing, second: Standing, moved: string, same_limit: boolean, total: number, rows: Row[] }} Comparison
  */
 import { choose, pick } from "./choice.js";
+import { showDifference } from "./difference.js";
 import { at, cell, field, fill, make, offer, onClick, replace } from "./elements.js";
 import { patiently } from "./messages.js";
 import { lower } from "./panel.js";
@@ -123,19 +124,7 @@ async function more() {
 /** @param {{ svg: string, reason: string }} told */
 function draw({ svg, reason }) {
   at("compare-reason").textContent = reason && sentence(reason);
-  const host = at("compare-picture");
-  host.hidden = !svg;
-  host.replaceChildren();
-  if (!svg) return;
-  const made = document.importNode(new DOMParser().parseFromString(svg, "image/svg+xml").documentElement, true);
-  const drawn = /** @type {SVGSVGElement} */ (/** @type {unknown} */ (made)), { width, height } = drawn.viewBox.baseVal;
-  // Letters are at least 11 pixels high; a picture wider than the page scrolls in its frame.
-  const scale = Math.min(1.33, Math.max(1.02, (host.clientWidth - 4) / width));
-  drawn.setAttribute("width", String(width * scale));
-  drawn.setAttribute("height", String(height * scale));
-  drawn.setAttribute("role", "img");
-  drawn.setAttribute("aria-label", `${at("compare-values").textContent} ${at("compare-count").textContent} The table below has the same.`);
-  host.append(drawn);
+  showDifference(svg, `${at("compare-values").textContent} ${at("compare-count").textContent} The table below has the same.`);
 }
 
 export function beginComparing() {

@@ -51,7 +51,7 @@ export function show(text) {
   if (!shown) {
     for (const name of ["width", "height"]) frame.removeAttribute(name);
     frame.setAttribute("aria-hidden", "false");
-    at("picture").append(frame);
+    at("layers").append(frame);
   }
 }
 

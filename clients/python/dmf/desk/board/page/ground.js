@@ -5,7 +5,8 @@
  * @typedef {{ number: number, tail: number, head: number, from: [number, number], to: [number, number], aside: [number, number],
  *   mark: Mark }} Line
  *   where it begins and where it flows to, and the direction and number of lanes by which it is moved aside from arcs with the same ends
- * @typedef {{ node: number, name: string, x: number, y: number, look: string, isEnd: boolean }} Spot
+ * @typedef {{ node: number, name: string, x: number, y: number, look: string, isEnd: boolean, weight: number }} Spot
+ *   `weight` says how much flows through it, in about, and whether it is at the bottleneck
  */
 import { choose, theChoice } from "./choice.js";
 import { markOf, thicker, usualLength } from "./colourings.js";
@@ -20,6 +21,8 @@ const NONE = " ", BACK = "<";
  * names can be read. */
 const APART = 5, NEAR = 9;
 export const NAMES = 0.3;
+/** The weight of an arc of the bottleneck, more than that of all others at a place. */
+export const OF_LIMIT = 1e6;
 /** @type {Map<number, Spot>} */
 export const places = new Map();
 /** @type {number[][] | null} */
@@ -54,7 +57,7 @@ export async function lookAtGround(isThere) {
     const told = await ask("ground");
     if (!told) return;
     told.nodes.forEach((/** @type {number} */ node, /** @type {number} */ place) => places.set(node, { node, name: told.names[place],
-      x: told.right[place], y: told.down[place], look: ".", isEnd: told.terminals.includes(node) }));
+      x: told.right[place], y: told.down[place], look: ".", isEnd: told.terminals.includes(node), weight: 0 }));
     ends = told.tails.map((/** @type {number} */ tail, /** @type {number} */ place) => [place + 1, tail, told.heads[place]]);
   }
   const told = await ask("looks");
@@ -63,11 +66,23 @@ export async function lookAtGround(isThere) {
   [...places.values()].forEach((place, number) => {
     place.look = told.places[number];
   });
-  for (const [node, name, x, y, look] of told.made) places.set(node, { node, name, x, y, look, isEnd: false });
+  for (const [node, name, x, y, look] of told.made) places.set(node, { node, name, x, y, look, isEnd: false, weight: 0 });
   made = told.made.map((/** @type {any[]} */ [node]) => node);
   const signs = (/** @type {number} */ place) => ["arcs", "uses", "changes", "widths", "ways"].map((text) => told[text][place]).join("");
   ground.lines = linesOf([...ends.map((one, place) => [...one, signs(place)]), ...told.added]);
+  weigh();
   ground.usual = usualLength(ground.lines.map(({ from, to }) => Math.hypot(to[0] - from[0], to[1] - from[1])));
+}
+
+/** Weighs the places by the arcs there. */
+function weigh() {
+  for (const place of places.values()) place.weight = 0;
+  for (const line of ground.lines) {
+    const { width, use } = line.mark;
+    for (const node of [line.tail, line.head]) {
+      /** @type {Spot} */ (places.get(node)).weight += width * width * use + (isOfLimit(line) ? OF_LIMIT : 0);
+    }
+  }
 }
 
 /**

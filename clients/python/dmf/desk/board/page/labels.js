@@ -93,12 +93,13 @@ function ovalOf(part) {
 }
 
 /**
- * Returns the rank of a label, the most important first: the source and the sink, the bottleneck, places, full arcs, other arcs.
+ * Returns the rank of a label, the most important first: the source and the sink, the bottleneck or what differs, places, full arcs, other
+ * arcs.
  * @param {SVGElement} part
  */
 function rank(part) {
   if (part.matches(".node")) return part.querySelectorAll("ellipse:not(.halo)").length > 1 ? 0 : 2;
-  return part.matches(".cut") ? 1 : part.matches(".full") ? 3 : 4;
+  return part.matches(".cut, .more, .less, .come, .gone, .else") ? 1 : part.matches(".full") ? 3 : 4;
 }
 
 /**

@@ -8,17 +8,18 @@ import { INSIDE, SHORT } from "./arrows.js";
 import { shadeOf, thicker, thickness } from "./colourings.js";
 import { at } from "./elements.js";
 import { isFaded } from "./filter.js";
+import { BEYOND, wider } from "./gliding.js";
 import { endsOf, ground, isGround, isMarked, isOfLimit, NAMES, places } from "./ground.js";
-import { cover, nameSpot } from "./labels.js";
 import { shades } from "./legend.js";
+import { isSparse, paintNames } from "./names.js";
 import { scale, seenBox } from "./view.js";
 
 /** The look of a place before the bottleneck, and of one that is shut; and the way of an arc in which nothing flows either way. */
 const BEFORE = "b", SHUT = "s", STILL = "-";
 /** The opacity of what a filter leaves out. */
 const FADED = 0.16;
-/** The most names; the size of letters, in pixels, and the height of a line for that; and the size of a shade, in units. */
-const MOST_NAMES = 400, LETTERS = 12, LINE = 1.25, ROUND = 90;
+/** The size of a shade, and of what a place may reach, in units. */
+const ROUND = 90, RIM = 60;
 
 /**
  * Returns half the length of the arrow on a line, in pixels.
@@ -27,17 +28,17 @@ const MOST_NAMES = 400, LETTERS = 12, LINE = 1.25, ROUND = 90;
 const arrowSize = (wide) => Math.min(5, 0.4 * wide + 2.6);
 
 /** Returns true if names cannot be read at this scale. Then the arcs of the picture are drawn like the others. */
-const isFar = () => isGround() && scale() < NAMES;
+export const isFar = () => isGround() && scale() < NAMES;
 
 /** Paints the visible part. */
 export function paint() {
-  const canvas = /** @type {HTMLCanvasElement} */ (at("ground")), box = seenBox(), by = devicePixelRatio;
+  const canvas = /** @type {HTMLCanvasElement} */ (at("ground")), box = wider(seenBox(), BEYOND), by = devicePixelRatio;
   // An empty canvas would be drawn with the picture.
   canvas.hidden = !isGround();
   at("picture").classList.toggle("far", isFar());
   const pen = isGround() && canvas.getContext("2d");
   if (!pen) return;
-  const [wide, high] = [Math.round(at("picture").clientWidth * by), Math.round(at("picture").clientHeight * by)];
+  const [wide, high] = [canvas.clientWidth, canvas.clientHeight].map((size) => Math.round(size * by));
   if (canvas.width !== wide || canvas.height !== high) Object.assign(canvas, { width: wide, height: high });
   pen.resetTransform();
   pen.clearRect(0, 0, wide, high);
@@ -46,10 +47,10 @@ export function paint() {
   if (isFar()) shadeBefore(pen, colour("side"));
   stroke(pen, seen.filter(isMarked), colour("mark"), 9);
   paintLines(pen, seen.filter((line) => isFar() || !ground.before.has(`arc-${line.number}`)), colour);
-  const named = paintPlaces(pen, box, colour);
+  const behind = paintPlaces(pen, box, colour);
   // Places that lie close together would hide the bottleneck, which is what one looks for at this scale.
   if (isFar()) paintLines(pen, seen.filter(isOfLimit), colour);
-  paintNames(pen, named, colour);
+  paintNames(pen, behind.filter((place) => isAt(seenBox(), place)), colour, reach);
 }
 
 /**
@@ -155,16 +156,21 @@ function point(pen, drawn, ink, pixels) {
 }
 
 /**
- * Paints the places, and returns those that get a name.
+ * Returns true if a place may be visible.
+ * @param {Box} box
+ * @param {Spot} place
+ */
+const isAt = (box, { x, y }) => x >= box.x - RIM && y >= box.y - RIM && x <= box.x + box.width + RIM && y <= box.y + box.height + RIM;
+
+/**
+ * Paints the places, and returns them.
  * @param {CanvasRenderingContext2D} pen
  * @param {Box} box
  * @param {(name: string) => string} colour
  */
 function paintPlaces(pen, box, colour) {
-  const rim = 60, isNear = scale() >= NAMES;
-  const seen = [...places.values()].filter(({ x, y }) => x >= box.x - rim && y >= box.y - rim && x <= box.x + box.width + rim
-    && y <= box.y + box.height + rim);
-  const behind = isNear ? seen.filter((place) => !ground.before.has(`node-${place.node}`)) : seen;
+  // Those that the picture in front has are drawn there.
+  const behind = [...places.values()].filter((place) => isAt(box, place) && (isFar() || !ground.before.has(`node-${place.node}`)));
   /**
    * Those that look alike are painted together, and the selection last.
    * @type {Record<string, Spot[]>}
@@ -182,7 +188,7 @@ function paintPlaces(pen, box, colour) {
       pen.fill();
     }
   }
-  return isNear ? behind : seen.filter((place) => place.isEnd || isMarked(place));
+  return behind;
 }
 
 /**
@@ -200,39 +206,17 @@ function circle(pen, spots) {
 }
 
 /**
- * Returns the lines and the arrows that names avoid, if names can be read.
+ * Returns the lines and the arrows that names avoid: all that are visible, or only the bottleneck if they are too many to be avoided.
  * @returns {import("./ink.js").Stroke[]}
  */
 export function strokesSeen() {
-  const by = thicker(ground.usual * scale()), seen = !isGround() || isFar() ? [] : ground.lines.filter((line) => isIn(seenBox(), line));
+  const by = thicker(ground.usual * scale());
+  const seen = ground.lines.filter((line) => (isSparse() || isOfLimit(line)) && isIn(seenBox(), line));
   return seen.flatMap((line) => {
     const [from, to] = endsOf(line).map(([x, y]) => ({ x, y })), thick = by * thickness(line.mark);
     const middle = { x: (from.x + to.x) / 2, y: (from.y + to.y) / 2 };
     return [{ points: [from, to], thick }, { points: [middle, middle], thick: 2 * arrowSize(thick) }];
   });
-}
-
-/**
- * Paints the names that have room: first the source and the sink, then the selection, then the others.
- * @param {CanvasRenderingContext2D} pen
- * @param {Spot[]} seen
- * @param {(name: string) => string} colour
- */
-function paintNames(pen, seen, colour) {
-  const by = scale(), style = getComputedStyle(at("picture")).fontFamily;
-  const order = (/** @type {Spot} */ it) => 2 * Number(it.isEnd) + Number(isMarked(it));
-  // The picture in front covers its own places.
-  const others = seen.filter((place) => isFar() || !ground.before.has(`node-${place.node}`));
-  const boxes = new Map(others.map((place) => [place, cover(place.x * by, place.y * by, reach(place))]));
-  Object.assign(pen, { font: `${LETTERS / by}px ${style}`, textBaseline: "middle", textAlign: "center", lineWidth: 3 / by });
-  Object.assign(pen, { strokeStyle: colour("paper"), fillStyle: colour("ink") });
-  for (const place of others.sort((one, other) => order(other) - order(one)).slice(0, MOST_NAMES)) {
-    const own = boxes.get(place), wide = pen.measureText(place.name).width * by;
-    const spot = own && nameSpot(own, [wide / 2, LETTERS * LINE / 2], order(place) > 0);
-    if (!spot) continue;
-    pen.strokeText(place.name, spot[0] / by, spot[1] / by);
-    pen.fillText(place.name, spot[0] / by, spot[1] / by);
-  }
 }
 
 /**

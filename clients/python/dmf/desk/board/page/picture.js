@@ -1,32 +1,33 @@
 /**
  * The picture of the network, or of the part of it near a place or the bottleneck.
- * @typedef {import("./state.js").State} State
  * @typedef {import("./labels.js").Label} Label
  * @typedef {import("./arrows.js").Arrow} Arrow
  */
-import { arrowsOf, pointArrows, strokesOf } from "./arrows.js";
+import { arrangeLabels } from "./arranging.js";
+import { arrowsOf, pointArrows } from "./arrows.js";
 import { hintBeyond } from "./beyond.js";
 import { choose, theChoice } from "./choice.js";
 import { markOf, shadeOf, thicker, thickness, usualLength } from "./colourings.js";
 import { boxOf, parts, show } from "./drawing.js";
 import { at, make, onClick } from "./elements.js";
 import { isFaded } from "./filter.js";
+import { setWhole } from "./gliding.js";
 import { chooseNear, ground, groundBox, isGround, isOfLimit, lookAtGround, middlePlace, setBefore } from "./ground.js";
-import { Ink } from "./ink.js";
-import { arrange, labelsOf } from "./labels.js";
+import { labelsOf } from "./labels.js";
 import { markAt, setMarks, shades } from "./legend.js";
 import { isPicked, pickedCount } from "./many.js";
 import { news } from "./messages.js";
-import { paint, strokesSeen } from "./painting.js";
-import { ask, noun, present, units } from "./state.js";
-import { covers, freePart } from "./room.js";
-import { beginView, fit, reveal, scale, see, seenBox, zoom } from "./view.js";
-import { listed } from "./words.js";
+import { paint } from "./painting.js";
+import { ask, noun, present } from "./state.js";
+import { formOf, freePart } from "./room.js";
+import { beginView, fit, isFitted, reveal, scale, see, seenBox, zoom } from "./view.js";
 
 /** The factor by which a button or a key enlarges it. */
 export const LARGER = 1.4;
-const STILL = 300;
-let asked = 0, count = 0, pending = 0, moving = 0;
+/** How long the view has to rest, in milliseconds, and the most labels of a picture that is drawn for each frame of a move. */
+const STILL = 300, QUICK = 60;
+/** `form` is how many hundredths of its height the free part of the window is wide; places are laid out for that. */
+let asked = 0, count = 0, pending = 0, moving = 0, form = 0;
 /** The place around which the picture should be, or an empty text for the bottleneck; and the one around which it is. */
 let near = "", nearShown = "none";
 /** @type {Label[]} */
@@ -50,9 +51,6 @@ export const isPart = () => count < present().arcs;
  */
 export const partOf = (choice) => parts().find((part) => part.id === (choice?.arc ? `arc-${choice.arc}` : `node-${choice?.node}`));
 
-/** @param {import("./choice.js").Choice} choice */
-export const isShown = (choice) => Boolean(partOf(choice));
-
 /**
  * Shows what is near a place.
  * @param {number} node
@@ -64,10 +62,31 @@ export function showNear(node, isMoved = false) {
   return showPicture();
 }
 
+/** Shows the picture for another form of the window. Only then, since no other change moves a place. */
+async function reshape() {
+  const now = formOf();
+  if (isGround() || now === form) return undefined;
+  const turn = (asked += 1), told = await ask(`picture?near=${near}&form=${now}`);
+  if (!told || turn !== asked) return undefined;
+  // Whoever moves the picture meanwhile keeps it as it is.
+  if (!isFitted()) return showPicture();
+  form = now;
+  nearShown = "none";
+  return showTold(told, turn);
+}
+
 export async function showPicture() {
-  const turn = (asked += 1);
-  const told = await ask(`picture?near=${near}`);
-  if (!told || turn !== asked) return;
+  form = form || formOf();
+  const turn = (asked += 1), told = await ask(`picture?near=${near}&form=${form}`);
+  if (told && turn === asked) await showTold(told, turn);
+}
+
+/**
+ * Shows the board's answer, unless another one was requested meanwhile.
+ * @param {{ svg: string, reason: string, arcs: any[], has_ground: boolean }} told
+ * @param {number} turn
+ */
+async function showTold(told, turn) {
   await lookAtGround(told.has_ground);
   if (turn !== asked) return;
   count = told.arcs.length;
@@ -78,9 +97,9 @@ export async function showPicture() {
   at("drawn-note").replaceChildren(told.reason ? `${told.reason}. ` : part,
     make("span", `Click a ${noun()} or a place to see more, and to change it.`, { class: "hint" }));
   at("near-limit").hidden = !near;
-  at("take-svg").setAttribute("href", `picture.svg?near=${near}&turn=${present().turn}`);
+  at("take-svg").setAttribute("href", `picture.svg?near=${near}&form=${form}&turn=${present().turn}`);
   setMarks(isGround() ? ground.lines.map((line) => line.mark)
-    : told.arcs.map((/** @type {any} */ arc) => markOf(arc.number, arc.mark)), isGround() || !isPart());
+    : told.arcs.map((arc) => markOf(arc.number, arc.mark)), isGround() || !isPart());
   draw(told.svg);
 }
 
@@ -88,13 +107,15 @@ export async function showPicture() {
 function draw(text) {
   const active = document.activeElement;
   const held = active && at("picture").contains(active) ? active.id : "";
-  const box = boxOf(text);
+  // Without Graphviz a map is drawn all the same.
+  const box = boxOf(text) ?? groundBox(".node, .arc");
   // After the picture is in the page, reading its size would lay it out, and changes to its labels would do that once more.
-  if (box && nearShown !== near) takeRoom(box);
+  if (box && (text ? nearShown !== near : nearShown === "none")) takeRoom(box);
   show(text);
   if (!box) return;
   labels = labelsOf(parts());
   setBefore(parts().map((part) => part.id));
+  setWhole(isGround() || labels.length > QUICK ? groundBox(".node, .arc") ?? box : null);
   mark();
   arrows = arrowsOf(parts());
   usual = isGround() ? ground.usual : usualLength(arrows.map(({ long }) => long));
@@ -134,7 +155,7 @@ export function mark() {
 /** Moves the picture to the selection, after drawing it if it was not drawn. */
 export async function revealChosen() {
   const chosen = theChoice();
-  if (chosen && !isShown(chosen) && !isGround()) {
+  if (chosen && !partOf(chosen) && !isGround()) {
     const node = chosen.node ?? (await ask(`arc?number=${chosen.arc}`, undefined, true))?.tail_node;
     if (!node || chosen !== theChoice()) return;
     await showNear(node);
@@ -144,16 +165,19 @@ export async function revealChosen() {
   if (box) reveal(box);
 }
 
-/** Arranges the labels before the next frame. If the view has moved to another part and stays there, that part gets its numbers. */
-function label() {
-  pending = pending || requestAnimationFrame(() => {
+/**
+ * Arranges the labels before the next frame. If the view has moved to another part and stays there, that part gets its numbers.
+ * @param {boolean} isGliding whether what is drawn glides along until the view rests
+ */
+function label(isGliding = false) {
+  pending = isGliding ? pending : pending || requestAnimationFrame(() => {
     pending = 0;
     const by = thicker(usual * scale());
     at("picture").style.setProperty("--thicker", String(by));
     at("picture").style.setProperty("--scale", String(scale()));
     pointArrows(arrows, scale(), by);
     hintBeyond(limits.map(([x, y]) => [(x - seenBox().x) * scale(), (y - seenBox().y) * scale()]), freePart());
-    arrangeLabels(by);
+    arrangeLabels(labels, arrows, by);
     paint();
   });
   clearTimeout(moving);
@@ -161,19 +185,6 @@ function label() {
     const node = middlePlace();
     if (node && String(node) !== near) showNear(node, true);
   }, STILL);
-}
-
-/**
- * Arranges the labels around what is drawn and what covers it.
- * @param {number} by by what factor lines are thicker
- */
-function arrangeLabels(by) {
-  const { x, y, width, height } = seenBox(), [across, down] = [x * scale(), y * scale()];
-  const inPicture = (/** @type {import("./ink.js").Edges} */ box) =>
-    ({ left: box.left + across, right: box.right + across, top: box.top + down, bottom: box.bottom + down });
-  const view = inPicture({ left: 0, right: width * scale(), top: 0, bottom: height * scale() });
-  const ink = new Ink([...strokesOf(arrows, by), ...strokesSeen()], scale(), view);
-  arrange(labels, scale(), { ink, view, covers: covers().map(inPicture), thicker: by });
 }
 
 /**
@@ -211,7 +222,7 @@ function meant(event) {
 }
 
 export function beginPicture() {
-  beginView(label);
+  beginView(label, reshape);
   at("picture").addEventListener("click", (event) => {
     const part = meant(event)?.closest("g.arc, g.node");
     if (part) choosePart(part);
@@ -234,15 +245,4 @@ export async function closeChoice() {
   const part = partOf(theChoice()), isBeside = at("chosen").contains(document.activeElement);
   await choose(null);
   if (isBeside) (part ?? at("picture")).focus();
-}
-
-/**
- * Describes the picture for screen readers.
- * @param {State} state
- */
-export function sayPicture(state) {
-  const limit = listed(state.limit.map((arc) => arc.short), state.limit_count);
-  const step = state.at ? ` Last step: ${state.steps[state.at].text}, ${state.steps[state.at].by}.` : "";
-  at("picture-said").textContent = `${state.value}${units()} flow from ${state.source} to ${state.sink}, over ${state.arcs} ${noun()}s. `
-    + `The limit: ${limit}.${step}`;
 }

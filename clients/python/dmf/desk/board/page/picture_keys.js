@@ -2,7 +2,7 @@
 import { parts } from "./drawing.js";
 import { at } from "./elements.js";
 import { nextPlace } from "./ground.js";
-import { choosePart, fitAll, isShown, LARGER, partOf, showNear } from "./picture.js";
+import { choosePart, fitAll, LARGER, partOf, showNear } from "./picture.js";
 import { move, reveal, zoom } from "./view.js";
 
 /** The pixels by which a key moves it. */
@@ -40,7 +40,7 @@ function nextPart(from, [right, down], like) {
  */
 async function goFrom(from, way, like) {
   const node = like === ".node" && from?.matches(like) ? nextPlace(Number(from.id.slice("node-".length)), way) : null;
-  if (node && !isShown({ node })) await showNear(node, true);
+  if (node && !partOf({ node })) await showNear(node, true);
   const next = node ? partOf({ node }) : from ? nextPart(from, way, like) : parts().find((it) => it.matches(".node"));
   next?.focus({ preventScroll: true });
   if (next) reveal(next.getBBox());

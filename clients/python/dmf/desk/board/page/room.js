@@ -22,6 +22,12 @@ export function freePart() {
   return { left: RIM, top: top + RIM, right: Math.max(right - RIM, RIM + LEAST), bottom: bottom - RIM };
 }
 
+/** Returns how many hundredths of its height the free part is wide. */
+export function formOf() {
+  const { left, top, right, bottom } = freePart();
+  return Math.max(1, Math.round(100 * (right - left) / (bottom - top)));
+}
+
 /** Returns the boxes of what covers the picture, in pixels from its corner. */
 export const covers = () => ["head", "foot", "panel", "fold", "beyond"].map((id) => at(id).getBoundingClientRect())
   .filter(({ width, height }) => width && height);

@@ -3,6 +3,7 @@
  * @typedef {{ x: number, y: number, width: number, height: number }} Box
  */
 import { at } from "./elements.js";
+import { glide, rest } from "./gliding.js";
 import { freePart } from "./room.js";
 
 /** The largest scale, in pixels per unit of the picture, and the largest one for a fit; the smallest; and, in pixels, the least length of a
@@ -12,7 +13,7 @@ const MOST = 6, MOST_FITTED = 1.8, LEAST = 0.004, DRAG = 4, ASIDE = 60, LEAST_FR
 let seen = { x: 0, y: 0, width: 1, height: 1 };
 /** @type {Map<number, { x: number, y: number }>} */
 const pointers = new Map();
-let isDragged = false, wide = 1, high = 1;
+let isBegun = false, isDragged = false, wide = 1, high = 1;
 /**
  * The box to which the view was fitted last, if it was not moved since.
  * @type {Box | null}
@@ -20,8 +21,13 @@ let isDragged = false, wide = 1, high = 1;
 let fitted = null;
 /** The middle of the latest free part that was large enough. */
 let focus = { x: 0, y: 0 };
-/** @type {() => unknown} */
+/** @type {(isGliding?: boolean) => unknown} */
 let told = () => undefined;
+/** @type {() => unknown} */
+let reshaped = () => undefined;
+
+/** Returns true if the view was fitted, and not moved since. */
+export const isFitted = () => Boolean(fitted);
 
 /** Returns the pixels per unit of the picture. */
 export const scale = () => wide / seen.width;
@@ -34,17 +40,20 @@ export const seenBox = () => seen;
  * @param {number} x
  * @param {number} y
  * @param {number} pixels
+ * @param {boolean} isGesture whether it is one of many moves, between which a large picture need not be drawn
  */
-function show(x, y, pixels) {
+function show(x, y, pixels, isGesture = false) {
   const by = Math.min(MOST, Math.max(LEAST, pixels)), { clientWidth, clientHeight } = at("picture");
-  [wide, high] = [clientWidth, clientHeight];
+  [isBegun, wide, high] = [true, clientWidth, clientHeight];
   seen = { width: clientWidth / by, height: clientHeight / by, x: x - clientWidth / by / 2, y: y - clientHeight / by / 2 };
   if (isRoomy(freePart())) focus = middleOf(freeBox());
-  see();
+  if (isGesture && glide(seen, by, see)) told(true);
+  else see();
 }
 
-/** Applies the view to the picture. */
+/** Draws the picture in the view. */
 export function see() {
+  rest(seen);
   const svg = at("picture").querySelector("svg"), box = [seen.x, seen.y, seen.width, seen.height].join(" ");
   if (svg?.getAttribute("viewBox") !== box) svg?.setAttribute("viewBox", box);
   told();
@@ -62,38 +71,42 @@ const isRoomy = ({ top, bottom }) => bottom - top > LEAST_FREE;
 
 /** Keeps the view in a free part that has changed: a fitted box is fitted again, or else the middle stays. */
 function showAgain() {
-  if (!at("picture").querySelector("svg")) return;
+  if (!isBegun) return;
   if (fitted) fit(fitted);
   else showFree(focus.x, focus.y, scale());
 }
 
 /** Keeps the view after the window has changed its size, or a phone was turned. */
 function refresh() {
-  const { clientWidth, clientHeight } = at("picture");
-  if (clientWidth !== wide || clientHeight !== high) showAgain();
+  const { clientWidth, clientHeight } = at("picture"), isWhole = fitted;
+  if (clientWidth === wide && clientHeight === high) return;
+  showAgain();
+  if (isWhole) reshaped();
 }
 
 /**
  * Scales the picture by a factor about a point of the window, or the middle of its free part.
  * @param {number} by
  * @param {{ x: number, y: number }} [point]
+ * @param {boolean} isGesture
  */
-export function zoom(by, point) {
+export function zoom(by, point, isGesture = false) {
   fitted = null;
   const box = at("picture").getBoundingClientRect(), pixels = Math.min(MOST, Math.max(LEAST, scale() * by));
   const free = freePart(), about = point ?? { x: box.x + (free.left + free.right) / 2, y: box.y + (free.top + free.bottom) / 2 };
   const [right, down] = [about.x - box.x - box.width / 2, about.y - box.y - box.height / 2];
-  show(middle().x + right / scale() - right / pixels, middle().y + down / scale() - down / pixels, pixels);
+  show(middle().x + right / scale() - right / pixels, middle().y + down / scale() - down / pixels, pixels, isGesture);
 }
 
 /**
  * Moves the view, in pixels.
  * @param {number} right
  * @param {number} down
+ * @param {boolean} isGesture
  */
-export function move(right, down) {
+export function move(right, down, isGesture = false) {
   fitted = null;
-  show(middle().x + right / scale(), middle().y + down / scale(), scale());
+  show(middle().x + right / scale(), middle().y + down / scale(), scale(), isGesture);
 }
 
 /**
@@ -161,14 +174,18 @@ function dragged(event) {
   if (!at("picture").hasPointerCapture(event.pointerId)) at("picture").setPointerCapture(event.pointerId);
   const other = [...pointers].find(([id]) => id !== event.pointerId)?.[1];
   const apart = (/** @type {{ x: number, y: number }} */ one) => other ? Math.max(1, Math.hypot(one.x - other.x, one.y - other.y)) : 1;
-  if (other) zoom(apart(event) / apart(before), other);
-  else move(before.x - event.x, before.y - event.y);
+  if (other) zoom(apart(event) / apart(before), other, true);
+  else move(before.x - event.x, before.y - event.y, true);
   pointers.set(event.pointerId, { x: event.x, y: event.y });
 }
 
-/** @param {() => unknown} tell is called after each change of the view */
-export function beginView(tell) {
+/**
+ * @param {(isGliding?: boolean) => unknown} tell is called after each change of the view, and told whether what is drawn only glides
+ * @param {() => unknown} reshape is called after the window has another form, if all was fitted to it
+ */
+export function beginView(tell, reshape) {
   told = tell;
+  reshaped = reshape;
   const host = at("picture");
   host.addEventListener("pointerdown", (event) => {
     if (!pointers.size) isDragged = false;
@@ -180,7 +197,7 @@ export function beginView(tell) {
   host.addEventListener("click", (event) => isDragged && event.stopImmediatePropagation(), true);
   host.addEventListener("wheel", (event) => {
     event.preventDefault();
-    zoom(Math.exp(-event.deltaY * (event.deltaMode ? 0.05 : 0.002)), event);
+    zoom(Math.exp(-event.deltaY * (event.deltaMode ? 0.05 : 0.002)), event, true);
   }, { passive: false });
   new ResizeObserver(refresh).observe(host);
 }

@@ -1,0 +1,71 @@
+/**
+ * The names of places on a map, in order of importance: the source and the sink, what is selected, places of the bottleneck, and those
+ * through which most flows. A name that covers no line is always shown. In each field of a grid at least one place is named, so that names
+ * are spread over the window; such a name may lie over lines if there is no other room. None lies on another name.
+ * @typedef {import("./ground.js").Spot} Spot
+ */
+import { edges } from "./boxes.js";
+import { at } from "./elements.js";
+import { ground, isMarked, NAMES, OF_LIMIT } from "./ground.js";
+import { cover, nameSpot } from "./labels.js";
+import { scale, seenBox } from "./view.js";
+
+/** The most names; and the size of letters, in pixels, and the height of a line for that. */
+const MOST_NAMES = 400, LETTERS = 12, LINE = 1.25;
+/** The side of a field, in pixels; and the least usual lengths of lines, in pixels, at which each field has a name, and at which no name
+ * lies on any place. */
+const FIELD = 110, SPARSE = 16, ROOMY = 30;
+
+/** Returns true if places lie far enough apart for names. Otherwise only ends, what is selected and the bottleneck have names. */
+export const isSparse = () => ground.usual * scale() >= SPARSE;
+
+/** @param {Spot} place */
+const isNeeded = (place) => place.isEnd || isMarked(place);
+
+/**
+ * Returns true if a point is visible.
+ * @param {number} x
+ * @param {number} y
+ */
+function isSeen(x, y) {
+  const box = seenBox();
+  return x >= box.x && x <= box.x + box.width && y >= box.y && y <= box.y + box.height;
+}
+
+/**
+ * Returns how important a name is.
+ * @param {Spot} place
+ */
+const importance = (place) => place.weight + 1e6 * OF_LIMIT * (2 * Number(place.isEnd) + Number(isMarked(place)));
+
+/**
+ * Paints the names of places that are not drawn in front.
+ * @param {CanvasRenderingContext2D} pen
+ * @param {Spot[]} seen
+ * @param {(name: string) => string} colour
+ * @param {(place: Spot) => number} reach the radius of a place, in pixels
+ */
+export function paintNames(pen, seen, colour, reach) {
+  const by = scale(), isRoomy = by >= NAMES || ground.usual * by >= ROOMY;
+  const candidates = isSparse() ? seen : seen.filter((place) => importance(place) >= OF_LIMIT);
+  const boxes = new Map(candidates.map((place) => {
+    const [x, y, far] = [place.x * by, place.y * by, reach(place)];
+    return [place, isRoomy || isNeeded(place) ? cover(x, y, far) : edges(x, y, far, far)];
+  }));
+  const style = getComputedStyle(at("picture")).fontFamily;
+  Object.assign(pen, { font: `${LETTERS / by}px ${style}`, textBaseline: "middle", textAlign: "center", lineWidth: 3 / by });
+  Object.assign(pen, { strokeStyle: colour("paper"), fillStyle: colour("ink") });
+  /** @type {Set<string>} */
+  const fields = new Set();
+  let count = 0;
+  for (const [place, own] of [...boxes].sort(([one], [other]) => importance(other) - importance(one))) {
+    const field = [place.x, place.y].map((along) => Math.floor(along * by / FIELD)).join(" "), isFirst = !fields.has(field);
+    if (count >= MOST_NAMES || !isRoomy && !isFirst && !isNeeded(place)) continue;
+    const spot = nameSpot(own, [pen.measureText(place.name).width * by / 2, LETTERS * LINE / 2], isFirst || isNeeded(place));
+    if (!spot || !isSeen(spot[0] / by, spot[1] / by)) continue;
+    fields.add(field);
+    count += 1;
+    pen.strokeText(place.name, spot[0] / by, spot[1] / by);
+    pen.fillText(place.name, spot[0] / by, spot[1] / by);
+  }
+}
