@@ -106,7 +106,8 @@ function aboutPlace(place) {
   /** @type {HTMLElement[]} */
   const about = [make("h3", place.name), make("p", told), ...place.roles.filter((role) => !role.closed).flatMap(aboutRole)];
   if (place.shut) about.push(button("Open it again", () => act({ what: "open-place", node: place.node }, `${place.name} is open`)));
-  if (place.open) about.push(make("p", shuttingWords(place), { id: "closing" }), button("Shut it", () => act({ what: "shut", node: place.node }, `${place.name} is shut`)));
+  const shut = () => act({ what: "shut", node: place.node }, `${place.name} is shut`);
+  if (place.open) about.push(make("p", shuttingWords(place), { id: "closing" }), button("Shut it", shut));
   if (isPart()) about.push(button("Show what is near it", () => showNear(place.node), "plain"));
   return [...about, adding(place)];
 }

@@ -4,7 +4,8 @@
  * @typedef {import("./state.js").Arc} Arc
  * @typedef {{ node: number, name: string, without: string, lost: string }} LostPlace
  * @typedef {{ worst: LostPlace[], more: number }} LostPlaces
- * @typedef {{ is_finding: boolean, is_known: boolean, worst: Arc[], more: number, places: LostPlaces, losses: Record<string, string> }} Worth
+ * @typedef {{ is_finding: boolean, is_known: boolean, worst: Arc[], more: number, places: LostPlaces,
+ *   losses: Record<string, string> }} Worth
  */
 import { pick, pickPlace } from "./choice.js";
 import { at, fill, numberCell } from "./elements.js";
