@@ -9,7 +9,12 @@ pub enum KeptEnd {
     Goal,
     /// The start did.
     Start,
+    /// Both are as they were when the search began anew: it solves.
+    Both,
 }
+
+/// Where a search solves, all nodes get a label once labelling from both ends has looked at so many times the links that there are.
+const MANY: u64 = 4;
 
 /// From where the nodes are labelled next.
 #[derive(Clone, Copy)]
@@ -33,7 +38,21 @@ impl Course {
     pub fn is_to_all(self, links: u64) -> bool {
         match self {
             Course::FromGoal { .. } => false,
-            Course::FromBoth { kept, spent } => kept.is_one() && spent > links,
+            Course::FromBoth { kept, spent } => {
+                if kept.is_both() {
+                    spent > links.saturating_mul(MANY)
+                } else {
+                    kept.is_one() && spent > links
+                }
+            }
+        }
+    }
+
+    /// Whether the search goes on between the ends that it began with.
+    pub fn is_to_solve(self) -> bool {
+        match self {
+            Course::FromGoal { .. } => false,
+            Course::FromBoth { kept, .. } => kept.is_both(),
         }
     }
 
@@ -59,10 +78,13 @@ impl Course {
     pub fn from_both(self) -> Course {
         match self {
             Course::FromGoal { .. } => Course::FromBoth {
-                kept: KeptEnd::Neither,
+                kept: KeptEnd::Both,
                 spent: 0,
             },
-            Course::FromBoth { kept, spent } => Course::FromBoth { kept, spent },
+            Course::FromBoth { kept, spent } => {
+                let spent = if kept.is_both() { 0 } else { spent };
+                Course::FromBoth { kept, spent }
+            }
         }
     }
 
@@ -105,7 +127,7 @@ impl KeptEnd {
     fn is_one(self) -> bool {
         match self {
             KeptEnd::Neither => false,
-            KeptEnd::Goal | KeptEnd::Start => true,
+            KeptEnd::Goal | KeptEnd::Start | KeptEnd::Both => true,
         }
     }
 
@@ -113,7 +135,15 @@ impl KeptEnd {
     fn is_start(self) -> bool {
         match self {
             KeptEnd::Neither | KeptEnd::Goal => false,
-            KeptEnd::Start => true,
+            KeptEnd::Start | KeptEnd::Both => true,
+        }
+    }
+
+    /// Whether both were.
+    fn is_both(self) -> bool {
+        match self {
+            KeptEnd::Neither | KeptEnd::Goal | KeptEnd::Start => false,
+            KeptEnd::Both => true,
         }
     }
 }

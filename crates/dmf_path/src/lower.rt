@@ -42,7 +42,7 @@ pub fn lower_near(
 
 /// Lowers the label of this node, if it has one, as far as the labels of the nodes before it allow, and makes the links that fall to it
 /// then current again.
-fn lower_node(links: &Residual, node: u32, near: &mut Frontier, current: &mut [u32])
+pub fn lower_node(links: &Residual, node: u32, near: &mut Frontier, current: &mut [u32])
     requires node { IsNode links.now.table.value.nodes node }
     requires labels { MayBeLowered (residual_of links.now) (record { labels = near.old.labels; current = current.old }) }
     ensures lowered { AreLowered (residual_of links.now) (record { labels = near.old.labels; current = current.old })
@@ -60,7 +60,7 @@ fn lower_node(links: &Residual, node: u32, near: &mut Frontier, current: &mut [u
 
 /// The greatest label of the nodes from which links with room lead to this node, or 0 if there are none. If one is greater than the
 /// node's own, the first such label: it does not fall then.
-fn top_before(links: &Residual, node: u32, labels: &[u32]) -> u32
+pub fn top_before(links: &Residual, node: u32, labels: &[u32]) -> u32
     requires node { IsNode links.now.table.value.nodes node }
     requires one_each { length labels.now ≡ links.now.table.value.nodes + 1 }
     ensures { result ≤ slice_index labels.now node → (p : ℕ) → LiesAt (links_of links.now.table.value) node p

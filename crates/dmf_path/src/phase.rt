@@ -13,6 +13,7 @@ ghost use Rattle.dmf_path.specs.Through.{AreWaysOut, FallOnce};
 use crate::aside::{Aside, Ends, take_up};
 use crate::ball::Ball;
 use crate::levels::{Levels, set_current};
+use crate::lower::{lower_node, top_before};
 use crate::raise::raise;
 use crate::redirect::{redirect, refit};
 use crate::relabel::label_anew;
@@ -65,13 +66,32 @@ impl Phase {
         ensures kept { result ≡ true → marks.new ≡ marks.old }
     {
         self.ball.keep_for(self.trail.goal);
-        if self.go_on() {
+        if self.go_on_at_once() {
             return true;
         }
         if self.go_on_mended() {
             return true;
         }
         self.go_on_anew(marks)
+    }
+
+    /// Goes on with the walk by the present labels, if these may lead to the goal. Whether it comes there.
+    fn go_on_at_once(&mut self) -> bool
+        requires { IsAround self.old.ball self.old.trail.goal }
+        ensures { HasGoneOn self.old self.new result }
+    {
+        self.may_go_on() && self.go_on()
+    }
+
+    /// Whether a walk may lead to the goal by the present labels. Where they are those from the start, whether a link that falls leads to
+    /// the goal.
+    fn may_go_on(&self) -> bool {
+        if !self.levels.all || !self.levels.course.is_to_solve() {
+            return true;
+        }
+        let goal = self.trail.goal;
+        let near = &self.levels.near;
+        top_before(&self.links, goal, near.labels()) > near.label(goal)
     }
 
     /// Mends the labels, and walks again if this helps. Whether the walk comes to the goal.
@@ -237,6 +257,7 @@ impl Phase {
 /// the goal then: whether the goal's label fell, or a trial found such a walk.
 fn mend(links: &Residual, levels: &mut Levels, ball: &mut Ball, start: u32, goal: u32) -> bool
     requires led { Lead levels.old ball.old (residual_of links.now) start goal }
+    requires apart { start ≢ goal }
     requires around { IsAround ball.old goal }
     ensures led { Lead levels.new ball.new (residual_of links.now) start goal }
     ensures around { IsAround ball.new goal }
@@ -250,12 +271,34 @@ fn mend(links: &Residual, levels: &mut Levels, ball: &mut Ball, start: u32, goal
             &mut levels.course,
         );
     }
+    if levels.course.is_to_solve() {
+        return lower_goal(links, levels, ball, start, goal);
+    }
     if levels.noted.lost {
         return false;
     }
     let before = levels.near.label(goal);
     refit(links, levels, ball, start, goal);
     levels.near.label(goal) < before
+}
+
+/// Lowers the goal's label, if it is one of those from the start, as far as the labels of the nodes before it allow, and makes the first
+/// link of each node its current one. Whether the label fell, and links with room lead to the goal.
+fn lower_goal(links: &Residual, levels: &mut Levels, ball: &Ball, start: u32, goal: u32) -> bool
+    requires led { Lead levels.old ball.now (residual_of links.now) start goal }
+    requires apart { start ≢ goal }
+    ensures led { Lead levels.new ball.now (residual_of links.now) start goal }
+{
+    let before = levels.near.label(goal);
+    set_current(&links.table, levels.near.queue(), &mut levels.current);
+    levels.noted.clear();
+    lower_node(links, goal, &mut levels.near, &mut levels.current);
+    has_fallen(before, levels.near.label(goal))
+}
+
+/// Whether a label has fallen, though not to 0: that it gets where no link with room leads to its node.
+fn has_fallen(before: u32, label: u32) -> bool {
+    0 < label && label < before
 }
 
 /// Labels the nodes anew from the ways out of marked nodes, and frees the slots; no push is held. Returns whether paths may be left, or

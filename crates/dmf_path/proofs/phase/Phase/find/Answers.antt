@@ -11,5 +11,5 @@ invariant_of-self c =
 
 pub returns-clause-none : goal.returns-clause-none
 returns-clause-none c ended =
-    let same = c.go_on_mended.ensures.on.same ∙ c.go_on.ensures.on.on.same ∙ ap sought_by c.self.view_is in
+    let same = c.go_on_mended.ensures.on.same ∙ c.go_on_at_once.ensures.on.same ∙ ap sought_by c.self.view_is in
     subst (λ (s : Sought). IsPartedBy s c.go_on_anew.new.marks) same (c.go_on_anew.ensures.none ended)

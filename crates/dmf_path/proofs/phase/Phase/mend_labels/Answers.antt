@@ -34,6 +34,7 @@ mend-is_mended-requires c =
         };
         passed = subst (λ (x : ResidualLinks). ArePassed r.links levels.near.labels x.rooms of.trail.goal levels.current.items) settled walking.passed;
       };
+      apart = aimed.apart;
       around = rw (← c.self.view_is) at c.requires.around;
     }
 
