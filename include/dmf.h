@@ -14,8 +14,8 @@
  * time. Calls for different sessions may run at the same time if malloc may. No call blocks or starts a thread, and none may
  * be made from a signal handler. After a fork each process has its own copy of the session; if other threads were running,
  * the child must not make any call, since it must not call malloc.
- * Time.  A solve may take long, and so may cap, close and shut if the flow runs over many paths, steps over many states, and
- * the losses. Every other call looks at each arc a few times at most. Nothing stops a call before it is done.
+ * Time.  A solve may take long, and so may cap, close and shut if the flow runs over many paths, steps over many states, the
+ * losses, and a maximum flow. Every other call looks at each arc a few times at most. Nothing stops a call before it is done.
  * Memory.  A session takes some 35 bytes an arc, 80 after its first solve, and 110 after the first change that takes flow
  * off. Any call below may answer DMF_NO_MEMORY unless a comment says that it takes none; then free something and try again.
  * Limits.  2 to 16,777,216 nodes, up to 134,217,728 arcs, closed ones counted. The capacities add up to at most 2^64 - 1.
@@ -189,7 +189,7 @@ enum dmf_status dmf_session_undo(dmf_session *session, uint64_t steps);
 /* Steps forward by this many undone states. DMF_NOTHING_TO_REDO. Takes memory only if an added arc comes back. */
 enum dmf_status dmf_session_redo(dmf_session *session, uint64_t steps);
 
-/* ---- The present state: none of these changes it; only the side, the losses, the check and the texts take memory ---------- */
+/* ---- The present state: none of these changes it; the side and what stands below it take memory, the others do not ------- */
 
 uint64_t dmf_session_value(const dmf_session *session);  /* the value of the flow */
 uint32_t dmf_session_past(const dmf_session *session);   /* how many states undo can step back */
@@ -219,6 +219,15 @@ enum dmf_status dmf_session_arc_range(const dmf_session *session, uint64_t first
  * The arcs that leave the side are the limit: their capacities add up to the value. `count` is dmf_session_nodes(session), or
  * the answer is DMF_BAD_LENGTH. DMF_NOT_GREATEST if the present flow is not a maximum flow: solve first. */
 enum dmf_status dmf_session_side(const dmf_session *session, uint8_t *side, size_t count);
+
+/* A maximum flow of the present network, whatever the session's own flow is. It is found by a method that is many times faster
+ * than dmf_session_solve on hard networks, but it need not be the flow that a solve makes, and the session stays as it is.
+ * *value becomes its value, flows[i] the flow on arc i + 1, and side[v - 1] what dmf_session_side writes there after a solve.
+ * `flow_count` is dmf_session_arcs(session), or 0 if no flows are wanted; `side_count` is dmf_session_nodes(session), or 0 if
+ * no side is wanted, which is faster; otherwise the answer is DMF_BAD_LENGTH. Only DMF_OK writes anything. */
+enum dmf_status dmf_session_maximum_flow(const dmf_session *session, uint64_t *value,
+                                         uint64_t *flows, size_t flow_count,
+                                         uint8_t *side, size_t side_count);
 
 /* What each arc is worth: losses[j - 1] becomes how much less the greatest value is if only arc j is closed, 0 for a closed arc.
  * Or what each node is worth: losses[v - 1] becomes how much less it is if only the arcs at node v are closed, 0 for the source

@@ -329,6 +329,16 @@ public:
         detail::expect_ok(dmf_session_side(live(), into.data(), into.size()));
     }
 
+    /// Returns the value of a maximum flow of the present network, and writes its flows into an array of arcs() elements and
+    /// the source side of the smallest minimum cut into one of nodes() elements; an empty array is not wanted. The session and
+    /// its own flow stay as they are. Many times faster than solve() on hard networks, above all without the side. Throws error
+    /// with bad_length, or std::bad_alloc.
+    std::uint64_t maximum_flow(span<std::uint64_t> flows = {}, span<std::uint8_t> side = {}) const {
+        std::uint64_t value = 0;
+        detail::expect_ok(dmf_session_maximum_flow(live(), &value, flows.data(), flows.size(), side.data(), side.size()));
+        return value;
+    }
+
     /// Returns what each arc is worth: at index j - 1 how much less the greatest value is if only arc j is closed. May take
     /// long. Throws error with not_greatest before a solve(), or std::bad_alloc.
     [[nodiscard]] std::vector<std::uint64_t> arc_losses() const {

@@ -197,6 +197,29 @@ class CSession:
         want(status)
         return [tuple(map(int, place))[:-1] for place in places]
 
+    def maximum_flow(
+        self, flow_count: int, side_count: int
+    ) -> tuple[int, tuple[int, ...], tuple[int, ...]]:
+        """Return the value that the call writes, and what it puts into arrays of these lengths. An
+        array of length 0 is NULL. The place after the last of each array stays, and a refused call
+        puts nothing."""
+        value, kinds = c_uint64(ODD_NUMBER), (c_uint64, c_uint8)
+        places = [odd_array(kind, count) for kind, count in zip(kinds, (flow_count, side_count))]
+        before = list(map(bytes, places))
+        columns = [
+            part
+            for place, count in zip(places, (flow_count, side_count))
+            for part in (place if count else None, c_size_t(count))
+        ]
+        status = self.calls.dmf_session_maximum_flow(self.session, byref(value), *columns)
+        for kind, place, odd in zip(kinds, places, before):
+            size = ctypes.sizeof(kind)
+            assert bytes(place)[-size:] == odd[-size:] and (status == 0 or bytes(place) == odd)
+        assert status == 0 or value.value == ODD_NUMBER
+        want(status)
+        flows, side = (tuple(map(int, place))[:-1] for place in places)
+        return value.value, flows, side
+
     def array(self, name: str) -> tuple[int, ...]:
         return self.filled(name, c_uint64, self.number("arcs"))
 

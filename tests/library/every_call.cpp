@@ -192,12 +192,25 @@ void losing() {
     EXPECT(session.value() == 5 && session.past() == 1);
 }
 
+void finding() {
+    dmf::session session = example();
+    std::array<std::uint64_t, 5> flows{9, 9, 9, 9, 9};
+    std::array<std::uint8_t, 4> side{9, 9, 9, 9};
+    REFUSED(bad_length, session.maximum_flow({flows.data(), 4}));
+    REFUSED(bad_length, session.maximum_flow({}, {side.data(), 3}));
+    EXPECT(session.maximum_flow() == 5 && session.maximum_flow({}, side) == 5);
+    EXPECT(flows[0] == 9 && side == std::array<std::uint8_t, 4>{1, 0, 0, 0});
+    EXPECT(session.maximum_flow(flows) == 5 && flows == std::array<std::uint64_t, 5>{3, 2, 1, 2, 3});
+    EXPECT(session.value() == 0 && session.past() == 0);
+}
+
 // The arrays of a network without arcs may lie nowhere.
 void without_arcs() {
     dmf::session session(2, 1, 2, {}, std::vector<std::uint32_t>(), {nullptr, 0});
     session.solve();
     EXPECT(session.value() == 0 && session.flows().empty() && session.check({}));
     EXPECT(session.arc_losses().empty() && session.node_losses() == numbers{0, 0});
+    EXPECT(session.maximum_flow() == 0);
     EXPECT(session.problem() == "p max 2 0\nn 1 s\nn 2 t\n" && session.solution() == "s 0\n");
 }
 } // namespace
@@ -209,6 +222,7 @@ int main() {
     changing();
     ranging();
     losing();
+    finding();
     owning();
     without_arcs();
     EXPECT(dmf::abi() == DMF_ABI && dmf::version() == dmf_version());

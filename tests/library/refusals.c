@@ -73,7 +73,7 @@ static struct seen look(const dmf_session *session)
 
 /* What calls write. */
 struct outputs {
-    uint64_t flows[MOST], capacities[MOST], of_arcs[ARCS], of_nodes[NODES], place, line;
+    uint64_t flows[MOST], capacities[MOST], of_arcs[ARCS], of_nodes[NODES], place, line, greatest;
     uint32_t tails[MOST], heads[MOST];
     uint8_t closed[MOST];
     dmf_session *session;
@@ -89,12 +89,14 @@ static struct outputs odd(void)
     return outputs;
 }
 
-enum step { SOLVE, FLOWS, RANGE, SIDE, ARC_LOSSES, NODE_LOSSES, CHECK, CAP, ADD, SOLVE_AGAIN, PROBLEM, SOLUTION, UNDO, REDO, CLOSE, SHUT, STEPS };
+enum step { VALUE, MAXIMUM, SOLVE, FLOWS, RANGE, SIDE, ARC_LOSSES, NODE_LOSSES, CHECK, CAP, ADD, SOLVE_AGAIN, PROBLEM, SOLUTION, UNDO, REDO, CLOSE, SHUT, STEPS };
 
 static enum dmf_status call(dmf_session *session, enum step step, struct outputs *to)
 {
     static const uint64_t flows[ARCS] = {3, 2, 1, 2, 3};
     switch (step) {
+    case VALUE: return dmf_session_maximum_flow(session, &to->greatest, NULL, 0, NULL, 0);
+    case MAXIMUM: return dmf_session_maximum_flow(session, &to->greatest, to->flows, ARCS, to->side, NODES);
     case SOLVE:
     case SOLVE_AGAIN: return dmf_session_solve(session);
     case FLOWS: return dmf_session_flows(session, to->flows, ARCS);
@@ -129,6 +131,8 @@ static int is_written(enum step step, const struct outputs *to)
     static const char begin[] = "p max 4 6\n", value[] = "s 10\n";
     static const uint64_t of_arcs[ARCS] = {3, 2, 1, 2, 3}, of_nodes[NODES] = {0, 3, 3, 0};
     switch (step) {
+    case VALUE: return to->greatest == 5;
+    case MAXIMUM: return to->greatest == 5 && memcmp(to->flows, of_arcs, sizeof of_arcs) == 0 && to->side[0] == 1 && to->side[NODES - 1] == 0;
     case FLOWS: return to->flows[0] == 3 && to->flows[ARCS - 1] == 3;
     case RANGE: return to->tails[0] == 1 && to->heads[2] == 4 && to->capacities[1] == 5 && to->flows[1] == 1 && to->closed[2] == 0;
     case SIDE: return to->side[0] == 1 && to->side[NODES - 1] == 0;

@@ -91,7 +91,7 @@ static void step_on(dmf_session *session)
 static void take_round(dmf_session *session)
 {
     uint8_t text[16384];
-    uint64_t flows[2 * ARCS], losses[2 * ARCS], place;
+    uint64_t flows[2 * ARCS], losses[2 * ARCS], place, greatest;
     size_t length;
     struct seen before, after;
     uint32_t past;
@@ -112,6 +112,9 @@ static void take_round(dmf_session *session)
     want(dmf_session_arc_losses(session, losses, dmf_session_arcs(session)) == DMF_OK &&
              dmf_session_node_losses(session, losses, NODES) == DMF_OK,
          "losses were refused");
+    want(dmf_session_maximum_flow(session, &greatest, flows, dmf_session_arcs(session), text, NODES) == DMF_OK &&
+             greatest == dmf_session_value(session) && dmf_session_check(session, flows, dmf_session_arcs(session), &place) == DMF_OK,
+         "the other flow is not greatest");
     want(dmf_session_problem(session, text, sizeof text, &length) == DMF_OK && dmf_session_solution(session, text, sizeof text, &length) == DMF_OK,
          "a text was refused");
     want(dmf_session_undo(session, dmf_session_past(session) - past) == DMF_OK, "too few states are kept");

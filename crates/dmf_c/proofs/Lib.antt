@@ -4,5 +4,6 @@ pub mod HandleGlue
 pub mod Judging
 pub mod Answered
 pub mod Siding
+pub mod Maximum
 pub mod Fitting
 pub mod Lost

@@ -43,7 +43,7 @@ mark-is ids marks v b from to has each =
     let same : v - 1 + 1 ≡ v = omega arith in
     each (v - 1) (omega arith) ∙ ap (λ (n : ℕ). if has_node ids n then 1 else 0) same ∙ ap (λ (x : Bool). if x then 1 else 0) has
 
-marks-network : (n : Network) (side : CutSide) (marks : List ℕ) → IsSmallestSide n side → length marks ≡ n.nodes
+pub marks-network : (n : Network) (side : CutSide) (marks : List ℕ) → IsSmallestSide n side → length marks ≡ n.nodes
     → ((k : ℕ) → k < length marks → slice_index marks k ≡ (if has_node side.ids (k + 1) then 1 else 0)) → MarksSide n marks
 marks-network n side marks least size each =
     record {

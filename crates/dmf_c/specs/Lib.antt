@@ -7,5 +7,6 @@ pub mod Built
 pub mod Opening
 pub mod Arrays
 pub mod Ranges
+pub mod MaximumFlow
 pub mod FaultNumber
 pub mod Texts

@@ -69,7 +69,7 @@ pub extern "C" fn dmf_session_side(alloc: Global, session: &mut Handle, side: &m
 }
 
 /// Marks the nodes of the side.
-fn mark(side: &Side, marks: &mut [u8])
+pub fn mark(side: &Side, marks: &mut [u8])
     requires { length marks.old < 2 ^ 32 }
     ensures marks { (k : ℕ) → k < length marks.new → slice_index marks.new k ≡ (if has_node side.now.ids (k + 1) then 1 else 0) }
     ensures size { length marks.new ≡ length marks.old }

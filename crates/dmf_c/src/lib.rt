@@ -9,6 +9,7 @@ mod commands;
 mod freeing;
 mod handle;
 mod losses;
+mod maximum_flow;
 mod opening;
 mod plan;
 mod ranges;

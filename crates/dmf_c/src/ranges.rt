@@ -75,7 +75,7 @@ fn copy_range(
 }
 
 /// Whether an array of this length has a place for each of `count` arcs, or is not wanted.
-fn is_column(count: usize, given: usize) -> bool
+pub fn is_column(count: usize, given: usize) -> bool
     ensures { result ≡ is_column count given }
 {
     given == 0 || given == count
