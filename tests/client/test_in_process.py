@@ -14,15 +14,13 @@ import sys
 import threading
 import time
 from collections.abc import Callable, Iterator
-from pathlib import Path
 from typing import Any
 
 import pytest
 from broken_off import CALLS, all_told, prepared
 from built import heed_interrupts
 from c_library import library_file
-from client_shared import BUILT, PIPES, dmf, environment, interrupted_soon, pipes, script
-from dmf import graphs as once
+from client_shared import BUILT, PIPES, dmf, environment, interrupted_soon, pipes
 from dmf.session import library as loaded
 from dmf.session import worker_threads
 from tool_runs import wait_until_asleep
@@ -331,13 +329,24 @@ def test_ctrl_c(how: str) -> None:
             user.kill()
 
 
-def test_large_networks_are_solved_by_the_program(monkeypatch: pytest.MonkeyPatch) -> None:
-    """Of one call, since it has the words that find a value sooner."""
-    monkeypatch.setattr(once, "MOST_IN_PROCESS", 4)
-    with script('echo "$1" >>"$0.calls"; exec ' + f'{BUILT} "$@"') as program:
-        monkeypatch.setenv("DMF", program)
-        assert [dmf.value(PIPES[:4], "lake", "sea"), dmf.value(PIPES, "lake", "sea")] == [2, 5]
-        assert Path(f"{program}.calls").read_text() == "--version\nsolve\n"
+def test_one_call_needs_no_program(monkeypatch: pytest.MonkeyPatch, bound: int) -> None:
+    """For the value, the cut or a flow."""
+    monkeypatch.setenv("DMF", "/nowhere")
+    graph = {"lake": {"mill": 3, "town": 2}, "mill": {"town": 5, "sea": 2}, "town": {"sea": 3}}
+    flows = {"lake": {"mill": 3, "town": 2}, "mill": {"town": 1, "sea": 2}, "town": {"sea": 3}}
+    with counted(monkeypatch) as freed:
+        assert dmf.value(PIPES, "lake", "sea") == 5
+        assert dmf.minimum_cut(graph, "lake", "sea") == (5, ({"lake"}, {"mill", "town", "sea"}))
+        assert dmf.maximum_flow(graph, "lake", "sea") == (5, {**flows, "sea": {}})
+        assert len(freed) == 3
+
+
+def test_one_call_without_memory(monkeypatch: pytest.MonkeyPatch, bound: int) -> None:
+    with counted(monkeypatch) as freed, monkeypatch.context() as patched:
+        patched.setattr(loaded.load(library_file()), "maximum_flow", lambda *_: loaded.NO_MEMORY)
+        with pytest.raises(dmf.NoMemory, match="^no memory$"):
+            dmf.value(PIPES, "lake", "sea")
+        assert len(freed) == 1
 
 
 def short(monkeypatch: pytest.MonkeyPatch, word: str, arc: int) -> None:

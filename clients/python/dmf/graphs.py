@@ -19,12 +19,13 @@ from .session.base import (
     ProblemColumns,
     Program,
     Runner,
+    Solved,
     Way,
     flow_array,
     problem_pieces,
     where,
 )
-from .session.fresh import CUT, FLOW, VALUE, Solved, solved, values_without
+from .session.fresh import CUT, FLOW, VALUE, solved, values_without
 from .session.runners import chosen, program_of
 from .text.lexical import AMOUNTS, LARGEST
 from .unbounded_arcs import BoundlessFlow, flows_of, solve_unbounded
@@ -36,8 +37,6 @@ if TYPE_CHECKING:
 
     Flows = Dict[Node, Dict[Node, int]]
 
-# A network with more arcs than these is solved by the program, even if the library is installed.
-MOST_IN_PROCESS = 20_000
 WANTED = "a graph of networkx or igraph, a sparse matrix of scipy, or a dictionary of dictionaries"
 
 
@@ -396,7 +395,7 @@ def _solved(given: GivenNetwork, words: list[str], program: Program) -> Solved |
 def _solved_problem(
     problem: ProblemColumns, words: list[str], way: Way, program: Program
 ) -> Solved:
-    if not isinstance(way, PROGRAM) and len(problem.tails) <= MOST_IN_PROCESS:
+    if not isinstance(way, PROGRAM):
         return _by_library(problem, words, way)
     return solved(problem_pieces(problem), words, program_of(program))
 
@@ -404,9 +403,6 @@ def _solved_problem(
 def _by_library(problem: ProblemColumns, words: list[str], library: Runner) -> Solved:
     session = library.begin(problem, 0)
     try:
-        value = session.step(("solve",))
-        if words == CUT:
-            return Solved(value, side=session.cut()[1])
-        return Solved(value, session.flows(value, len(problem.tails)) if words == FLOW else b"")
+        return session.maximum_flow(want_flows=words == FLOW, want_side=words == CUT)
     finally:
         session.end()

@@ -12,8 +12,8 @@ from collections.abc import Callable, Sequence
 from typing import NamedTuple
 
 from .errors import Unbounded
-from .session.base import ProblemColumns, Told, read_flows
-from .session.fresh import FLOW, Solved
+from .session.base import ProblemColumns, Solved, Told, read_flows
+from .session.fresh import FLOW
 from .text.lexical import AMOUNTS, NODES
 
 # A function that solves a problem as some words ask.

@@ -11,8 +11,8 @@ from dataclasses import dataclass, field
 from typing import NamedTuple
 
 from ..errors import Error, FlowIsNotGreatest
-from ..session.base import Part, Program, ValuesWithout
-from ..session.fresh import CUT, Solved, solved
+from ..session.base import Part, Program, Solved, ValuesWithout
+from ..session.fresh import CUT, solved
 from ..session.runners import program_of
 from .live_network import LiveNetwork
 

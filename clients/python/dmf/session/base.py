@@ -70,6 +70,14 @@ class ValuesWithout(NamedTuple):
     without: array[int]
 
 
+class Solved(NamedTuple):
+    """The greatest value, and the flows or the nodes of the source side if they were asked for."""
+
+    value: int
+    flows: Told = b""
+    side: Sequence[int] = ()
+
+
 class Runner(Protocol):
     """The library, which begins sessions in this process."""
 
@@ -146,6 +154,11 @@ class Session:
     def cut(self) -> tuple[int, list[int]]:
         """Return the capacity of the smallest minimum cut and the node numbers of its source side,
         in ascending order."""
+        raise NotImplementedError
+
+    def maximum_flow(self, want_flows: bool, want_side: bool) -> Solved:
+        """Return the greatest value and, if they are wanted, the flows of any maximum flow and the
+        source side of the smallest minimum cut. The session's own flow stays as it is."""
         raise NotImplementedError
 
     def values_without(self, part: Part) -> ValuesWithout | None:

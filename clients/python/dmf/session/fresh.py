@@ -5,7 +5,7 @@ from __future__ import annotations
 
 from array import array
 from collections.abc import Iterable, Sequence
-from typing import TYPE_CHECKING, NamedTuple
+from typing import TYPE_CHECKING
 
 from ..errors import SessionEnded, UnknownCommand
 from ..files import scratch
@@ -16,7 +16,7 @@ from .base import (
     Part,
     ProblemColumns,
     Session,
-    Told,
+    Solved,
     ValuesWithout,
     Way,
     command_line,
@@ -31,14 +31,6 @@ if TYPE_CHECKING:
 
 VALUE, CUT, FLOW = ["solve", "--brief"], ["solve", "--brief", "--cut"], ["solve", "--any"]
 VITAL = {Part.ARC: ["vital"], Part.NODE: ["vital", "--nodes"]}
-
-
-class Solved(NamedTuple):
-    """The greatest value, and the flows or the nodes of the source side if they were asked for."""
-
-    value: int
-    flows: Told = b""
-    side: Sequence[int] = ()
 
 
 def solved(

@@ -19,6 +19,7 @@ from .base import (
     Part,
     ProblemColumns,
     Session,
+    Solved,
     ValuesWithout,
     command_line,
     judged,
@@ -98,6 +99,8 @@ class Library:
         self.arcs = self._call("dmf_session_arcs", [_POINTER], _SIZE)
         self.flows = self._call("dmf_session_flows", [_POINTER, _POINTER, _SIZE])
         self.side = self._call("dmf_session_side", [_POINTER, _POINTER, _SIZE])
+        found = [_POINTER, _POINTER, *[_POINTER, _SIZE] * 2]
+        self.maximum_flow = self._call("dmf_session_maximum_flow", found)
         self.losses = {
             part: self._call(f"dmf_session_{part.value}_losses", [_POINTER, _POINTER, _SIZE])
             for part in Part
@@ -293,6 +296,19 @@ class LibrarySession(Session):
             raise refused(REASONS[status], "print cut", None)
         # The cut has the capacity of the value, as each minimum cut.
         return self._library.value(held.address), list(compress(count(1), marks))
+
+    def maximum_flow(self, want_flows: bool, want_side: bool) -> Solved:
+        return self._do(self._maximum_flow, want_flows, want_side)
+
+    def _maximum_flow(self, held: Handle, want_flows: bool, want_side: bool) -> Solved:
+        address, value = held.address, _LONG()
+        flows = array(AMOUNTS, [0]) * (self._library.arcs(address) if want_flows else 0)
+        marks = array("B", bytes(self._library.nodes(address) if want_side else 0))
+        columns = _place(flows), len(flows), _place(marks), len(marks)
+        status = self._library.maximum_flow(address, ctypes.byref(value), *columns)
+        if status != OK:
+            raise refused_line(REASONS[status], None)
+        return Solved(value.value, flows, list(compress(count(1), marks)))
 
     def values_without(self, part: Part) -> ValuesWithout | None:
         return self._do(self._values_without, part, most_at_once=MOST_LOST_AT_ONCE)
