@@ -78,9 +78,9 @@ FORMS: list[tuple[str, Optional[bytes], str]] = [
         b'{"what": "close", "arc": 1, "turn": 1, "shown": [1]}',
         "shown must be a list of addresses",
     ),
-    ("sweep", b'{"arcs": [1]}', "expected a list"),
-    ("sweep", b'{"arcs": 1, "turn": 1}', "expected a list"),
-    ("sweep", b'{"arcs": ["1"], "turn": 1}', "whole numbers"),
+    ("seconds", b'{"arcs": [1]}', "expected a list"),
+    ("seconds", b'{"arcs": 1, "turn": 1}', "expected a list"),
+    ("seconds", b'{"arcs": ["1"], "turn": 1}', "whole numbers"),
 ]
 # Headers of a wrong form, and what is said.
 HEADERS: list[tuple[dict[str, Any], str]] = [
@@ -140,21 +140,14 @@ def test_an_act_tells_what_is_shown() -> None:
         assert "parts" not in it.do(what="go", step=1)
 
 
-def test_what_is_lost_and_won() -> None:
-    """In amounts of the table, empty where it is nothing; and in digits, ordered as texts are."""
+def test_what_is_lost() -> None:
+    """In amounts of the table, by all sets of places."""
     with board(PIPES) as it:
-        left, rows = list(range(1, 15)), list[Any]()
-        while left:
-            told = json.loads(it.post("sweep", arcs=left)[1])
-            left, rows = told["left"], rows + told["trials"]
-        for row in rows:
-            without, doubled = swept()[row["name"]]
-            lost, won = 165 - without, doubled - 165
-            assert (row["lost"], row["won"]) == (str(lost or ""), str(won or "")), row["name"]
-            assert (int(row["loss"]), int(row["gain"])) == (lost, won), row["name"]
-        for kind in "loss", "gain":
-            digits = [row[kind] for row in rows]
-            assert sorted(digits) == sorted(digits, key=int)
+        while it.told("worth")["is_finding"]:
+            time.sleep(0.02)
+        for row in it.told("rows?filter=&sort=&first=0&count=20")["rows"]:
+            without, _ = swept()[row["name"]]
+            assert (row["without"], row["lost"]) == (str(without), str(165 - without)), row["name"]
         # The story's page: without the Bridge pipe it is 155.
         told = it.do(what="close", arc=10)
         assert (told["moved"], told["by"]) == ("10 less", "10 less")
@@ -284,7 +277,7 @@ def test_turns() -> None:
                     "the network has changed in another tab: look again",
                     it.turn(),
                 ), content
-            assert b"look again" in it.post("sweep", arcs=[1], turn=turn)[1]
+            assert b"look again" in it.post("seconds", arcs=[1], turn=turn)[1]
             for file in (
                 f"plan.csv?turn={turn}",
                 f"problem.max?turn={turn}",
@@ -440,7 +433,7 @@ def test_unforeseen(monkeypatch: pytest.MonkeyPatch, error: Exception) -> None:
         (Network, "shut", "do", {"what": "shut", "node": 5})
     ]
     asked += [
-        (desk_sweep, "sweep", "sweep", {"arcs": [1, 2, 3]}),
+        (desk_sweep, "sweep", "seconds", {"arcs": [1, 2, 3]}),
         (Network, "solve", "do", {"what": "close", "arc": 3}),
     ]
     for at, name, path, content in asked:

@@ -129,8 +129,10 @@ def test_names_and_colours(driver: Any) -> None:
             page.press("Choose all of these")
             page.wait(lambda: page.text("#many-told"))  # noqa: B023
             judge_tree(driver)
-            page.press("Try each pipe of the limit")
-            page.wait(lambda: page.text("#verdict").startswith(("Worst", "None")))  # noqa: B023
+            page.press("What would a second one bring?")
+            page.wait(
+                lambda: page.text("#seconds-told").startswith(("Best", "A sec"))
+            )  # noqa: B023
             texts = []
             for tab in driver.find_elements("css selector", "[role=tab]"):
                 if tab.is_displayed():
@@ -310,8 +312,8 @@ def test_said(driver: Any) -> None:
         page = Page(driver, it.address)
         said = driver.execute_script("return document.getElementById('picture-said').textContent")
         wanted = (
-            "165 litres per second flow from Reservoir to Harbour, over 14 pipes. The limit: North "
-            "rise, Mill Lane, South main."
+            "165 litres per second flow from Reservoir to Harbour, over 14 pipes. The bottleneck: "
+            "North rise, Mill Lane, South main."
         )
         assert said == wanted
         it.do(what="close", arc=10)
@@ -364,10 +366,14 @@ def test_long_names(driver: Any, tmp_path: Path) -> None:
         for width in WIDTHS:
             show(driver, width, "light")
             page = Page(driver, it.address)
-            page.press("Try each pipe")
-            page.wait(lambda: page.text("#verdict").startswith("Worst"))  # noqa: B023
+            page.press("What would a second one bring?")
+            page.wait(
+                lambda: page.text("#seconds-told").startswith(("Best", "A sec"))
+            )  # noqa: B023
             assert (
-                driver.execute_script("return document.querySelector('#trials td').offsetWidth")
+                driver.execute_script(
+                    "return document.querySelector('#limit-table td').offsetWidth"
+                )
                 >= 72
             )
             page.click("#limit-table button")

@@ -70,19 +70,10 @@ def test_story(driver: Any) -> None:
         page.after(lambda: page.press("as in the file: 165"))
         assert page.after(lambda: page.click("#redo")) == 155
         assert page.undo() == 165
-        page.press("Try each pipe")
-        page.wait(lambda: "Worst" in page.text("#verdict"))
+        page.know_worth()
         wanted = swept()
         worst = min(wanted, key=lambda name: wanted[name][0])
-        best = max(wanted, key=lambda name: wanted[name][1])
-        second = f"{wanted[worst][1] - 165} more" if wanted[worst][1] > 165 else "nothing"
-        said = (
-            f"Worst to lose: {worst}, {165 - wanted[worst][0]} litres per second less; a second "
-            "one "
-            f"brings {second}. "
-        )
-        said += f"Best to have a second of: {best}, {wanted[best][1] - 165} litres per second more."
-        assert page.text("#verdict") == said, f"the verdict: {page.text('#verdict')}"
+        assert page.text("#worst-table tbody td").startswith(worst)
         judge_keys(page)
         judge_sessions(page, it)
         # What is refused, and a session that has ended, a browser tells as well.
@@ -191,14 +182,14 @@ def test_widths(driver: Any) -> None:
                 {"width": width, "height": 900, "deviceScaleFactor": 1, "mobile": width == 400},
             )
             page = Page(driver, it.address)
-            page.press("Try each pipe")
-            page.wait(lambda: "Worst" in page.text("#verdict"))  # noqa: B023
+            page.press("What would a second one bring?")
+            page.wait(lambda: "second" in page.text("#seconds-told"))  # noqa: B023
             wide = driver.execute_script("return document.documentElement.scrollWidth")
             cut = driver.execute_script(
-                "const it = document.getElementById('trials').parentElement; return it.scrollWidth "
-                "- it.clientWidth"
+                "const it = document.getElementById('limit-table').parentElement; return "
+                "it.scrollWidth - it.clientWidth"
             )
-            assert cut <= 0, f"at {width} pixels the table of trials is cut by {cut}"
+            assert cut <= 0, f"at {width} pixels the table of the bottleneck is cut by {cut}"
             assert wide <= width, f"at {width} pixels the page has {wide}"
         driver.execute_cdp_cmd("Emulation.clearDeviceMetricsOverride", {})
         driver.get("about:blank")
@@ -216,8 +207,7 @@ def test_pictures(driver: Any, writes: bool) -> None:
             }
             driver.execute_cdp_cmd("Emulation.setDeviceMetricsOverride", metrics)
             page = Page(driver, it.address)
-            page.press("Try each pipe")
-            page.wait(lambda: "Worst" in page.text("#verdict"))  # noqa: B023
+            page.know_worth()
             page.choose("arc-9", "Mill Lane")
             driver.execute_script("scrollTo(0, 0)")
             picture = driver.get_screenshot_as_png()

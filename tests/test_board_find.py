@@ -62,7 +62,7 @@ def test_lists_end(driver: Any, tmp_path: Path) -> None:
     with board(str(table)) as it:
         page = Page(driver, it.address)
         # Each way is full at its second arc, so that all places but the last lie before the limit.
-        assert "Before the limit: S, P0, P1, P2, P3 and 1,230 more." in page.text("#limit-note")
+        assert "Before them: S, P0, P1, P2, P3 and 1,230 more." in page.text("#limit-note")
         said = driver.find_element("id", "picture-said").get_attribute("textContent")
         assert " and 1,229 more." in said and said.count(" -> ") == 5
         driver.get("about:blank")
@@ -74,19 +74,19 @@ def test_use(driver: Any) -> None:
     with board(PIPES) as it:
         page = Page(driver, it.address)
         it.do(what="cap", arc=2, capacity="+20 %")
-        page.wait(lambda: "changed" in page.text("#grid"))
+        page.wait(lambda: "was 90" in page.text("#grid"))
         page.click("#grid th.use button")
         page.wait(lambda: ascending(page))
         cells = "[...document.querySelectorAll('#grid tbody tr[id]')]"
         told = driver.execute_script(
-            f"return {cells}.map((it) => ['.flow', '.capacity', '.use', '.marks'].map("
+            f"return {cells}.map((it) => ['.flow', '.capacity', '.use', '.change'].map("
             "(at) => it.querySelector(at).innerText))"
         )
         parts = [int(flow) / int(capacity) for flow, capacity, *_ in told]
         assert parts == sorted(parts) and len(parts) == 14
         wanted = [f"{int(100 * part + 0.5)} %" for part in parts]
         assert [use for *_, use, _ in told] == wanted
-        assert sum("changed" in marks for *_, marks in told) == 1
+        assert [change for *_, change in told if change] == ["was 90"]
         driver.get("about:blank")
 
 

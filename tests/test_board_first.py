@@ -32,7 +32,6 @@ ASKED: list[tuple[str, dict[str, str]]] = [
     ("looks", {}),
     ("ground", {}),
     ("find", {"text": "1"}),
-    ("opened", {}),
     ("scenarios", {}),
     ("turn", {}),
     ("plan.csv", {"turn": "1"}),

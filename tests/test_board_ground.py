@@ -283,7 +283,7 @@ def judge_drawn(page: Page, it: Board, ground: Any, red: list[int]) -> None:
     page.wait(lambda: all(has(page, ground, ends[place], red) for place in limit))
     assert not all(has(page, ground, ends[place], red) for place in others)
     # A click on the middle of an arc of the limit, as large as it is when all of that is seen.
-    page.press("The limit")
+    page.press("The bottleneck")
     row = next(arc for arc in it.state()["limit"] if arc["number"] == limit[len(limit) // 2] + 1)
     for _ in range(6):
         page.press("Larger")

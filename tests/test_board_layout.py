@@ -70,8 +70,8 @@ def test_fills_the_window(driver: Any) -> None:
         for width in WIDTHS:
             show(driver, width, "light")
             page = Page(driver, it.address)
-            page.press("Try each pipe")
-            page.wait(lambda: "Worst" in page.text("#verdict"))  # noqa: B023
+            page.press("What would a second one bring?")
+            page.wait(lambda: "second" in page.text("#seconds-told"))  # noqa: B023
             window, picture, _ = boxes(page)
             assert picture == [0, 0, *window]
             for place in range(driver.execute_script(f"return {TABS}.length")):
@@ -141,7 +141,7 @@ def test_tabs_by_keys(driver: Any) -> None:
         page = Page(driver, it.address)
         driver.find_element("id", "tab-selected").click()
         names = []
-        for key in RIGHT, RIGHT, RIGHT, RIGHT, LEFT:
+        for key in RIGHT, RIGHT, RIGHT, LEFT:
             page.actions().send_keys(key).perform()
             tab = driver.switch_to.active_element
             parts = [
@@ -153,7 +153,7 @@ def test_tabs_by_keys(driver: Any) -> None:
             assert tab.get_attribute("aria-selected") == "true"
             names.append(tab.text)
         # Without a project there are no scenarios.
-        assert names == ["All", "If lost", "Steps", "Selected", "Steps"]
+        assert names == ["All", "Steps", "Selected", "Steps"]
         driver.get("about:blank")
 
 

@@ -15,8 +15,8 @@ pytestmark = pytest.mark.seconds(20)
 
 
 def test_part(driver: Any, tmp_path: Path) -> None:
-    """Of a large network the page tries all, also those that its picture does not show: here the
-    one that is worst to lose."""
+    """Of a large network the page lists what is worst to lose of all, also of those that its
+    picture does not show."""
     rows = ["from,to,litres,pipe", "S,A,100,main"]
     for chain, least in ("B", 30), ("C", 20):
         places = ["A", *(f"{chain}{place}" for place in range(1, 400)), "T"]
@@ -29,30 +29,15 @@ def test_part(driver: Any, tmp_path: Path) -> None:
     with board(str(table)) as it:
         page = Page(driver, it.address)
         assert (page.value(), "main" in page.text("#arcs")) == (50, False)
-        page.press("Try each pipe")
-        page.wait(lambda: "Worst" in page.text("#verdict"))
+        page.know_worth()
         # Without the first pipe all is lost.
-        assert (
-            page.text("#verdict")
-            == "Worst to lose: main, 50 litres less; a second one brings nothing. Best to have a "
-            "second of: B-T, 30 litres more."
-        )
-        assert page.driver.execute_script(
-            "return [document.querySelectorAll('#picture g.arc').length, "
-            "document.getElementById('trials').tBodies[0].rows.length]"
-        ) == [300, 20]
-        page.press("Show all 801")
-        assert (
-            page.driver.execute_script(
-                "return document.getElementById('trials').tBodies[0].rows.length"
-            )
-            == 801
-        )
-        page.press("Try each pipe of the limit")
-        page.wait(lambda: "limit" in page.text("#verdict"))
-        assert page.text("#verdict").startswith(
-            "Worst to lose of the 2 of the limit: B-T, 30 litres less"
-        ), page.text("#verdict")
+        assert page.text("#worst-table tbody tr").split("\t")[1:] == ["0", "50"]
+        assert page.text("#worst-table tbody td").startswith("main")
+        drawn = "return document.querySelectorAll('#picture g.arc').length"
+        assert page.driver.execute_script(drawn) == 300
+        page.press("What would a second one bring?")
+        page.wait(lambda: "Best" in page.text("#seconds-told"))
+        assert page.text("#seconds-told") == "Best to have a second of: B-T, 30 litres more."
         page.write("#text", "B")
         page.wait(lambda: "There are more" in page.text("#found"))
         page.write("#text", "B399")
@@ -126,7 +111,7 @@ def test_numbers(driver: Any, tmp_path: Path) -> None:
         page.wait(lambda: page.text("#what h3") == "Weir")
         says(
             "55.5 litres come in, and 55.5 go out.",
-            "What Weir lets through: 55.5 litres, of which 55.5 flow. It is part of the limit",
+            "What Weir lets through: 55.5 litres, of which 55.5 flow. It is part of the bottleneck",
         )
         for typed, value, step in (
             ("70,25", "62.65", "70.25"),
@@ -150,11 +135,10 @@ def test_numbers(driver: Any, tmp_path: Path) -> None:
         page.press("Set")
         page.wait(lambda: "Mill gives at most 5.5 litres: 25.55" in page.text("#way"))
         page.settle()
-        says("What Mill gives at most: 5.5 litres, of which 5.5 flow. It is part of the limit")
-        page.press("Try each connection")
-        page.wait(
-            lambda: page.text("#verdict").startswith("Worst to lose: Side, 20.05 litres less")
-        )
+        says("What Mill gives at most: 5.5 litres, of which 5.5 flow. It is part of the bottleneck")
+        page.know_worth()
+        worst = page.text("#worst-table tbody tr")
+        assert worst.startswith("Side") and worst.endswith("20.05"), worst
         for width, scheme in itertools.product((400, 768, 1280), ("light", "dark")):
             metrics = {
                 "width": width,

@@ -89,7 +89,7 @@ def test_case(driver: Any, tmp_path: Path, case: Case) -> None:
         limit = it.state()["limit"]
         judge_one(page, it, rows, limit[0])
         judge_many(page, it, rows)
-        judge_sweep(page, it, rows)
+        judge_worth(page, it, rows)
         judge_keys(page, it)
         judge_looks(page, case)
         as_before(driver)
@@ -137,33 +137,29 @@ def judge_many(page: Page, it: Board, rows: list[Any]) -> None:
     page.write("#filter", " ")
 
 
-def judge_sweep(page: Page, it: Board, rows: list[Any]) -> None:
-    """The worst to lose of the limit is one than which none costs more; a sweep of all can be
-    stopped."""
-    names = {row["name"]: row for row in it.state()["limit"]}
-    page.press("Try each pipe of the limit")
-    page.wait(lambda: page.text("#verdict").startswith("Worst"))
-    # Of several that cost as much the first is taken.
-    told = page.text("#verdict").partition(": ")[2].partition(",")[0].partition(" or ")[0]
-    without = value_of([{**row, "closed": row["number"] == names[told]["number"]} for row in rows])
-    sample = list(names.values())[:: max(1, len(names) // 4)]
-    assert all(
-        value_of([{**row, "closed": row["number"] == one["number"]} for row in rows]) >= without
-        for one in sample
-    )
-    page.press("Try each pipe")
-    if len(rows) > 1_000:
-        page.wait(lambda: page.driver.find_element("id", "stop").is_displayed())
-        # It may have come to its end before the click, which then does nothing.
-        page.driver.execute_script("document.getElementById('stop').click()")
-    page.wait(lambda: not page.driver.find_element("id", "stop").is_displayed())
-    page.settle()
-    if len(rows) < 1_000:
-        cut = (
-            "const it = document.getElementById('trials').parentElement; return it.scrollWidth - "
-            "it.clientWidth"
+def judge_worth(page: Page, it: Board, rows: list[Any]) -> None:
+    """The worst to lose is one than which none of a sample costs more, by the other computation;
+    and what a second one beside one of the limit brings is what that finds."""
+    page.know_worth()
+    (worst, *_) = it.told("worth")["worst"]
+    without = value_of([{**row, "closed": row["number"] == worst["number"]} for row in rows])
+    assert int(worst["without"]) == without
+    limit = it.state()["limit"]
+    for one in limit[:: max(1, len(limit) // 4)]:
+        assert (
+            value_of([{**row, "closed": row["number"] == one["number"]} for row in rows]) >= without
         )
-        assert page.driver.execute_script(cut) <= 0
+    page.press("What would a second one bring?")
+    page.wait(lambda: page.text("#seconds-told").startswith(("Best", "A second")))
+    page.settle()
+    brings = page.text("#limit-table tbody tr td:last-child").partition(" more")[0]
+    first = next(row for row in rows if row["number"] == limit[0]["number"])
+    assert value_of([*rows, first]) == value_of(rows) + int(brings.replace("nothing", "0"))
+    cut = (
+        "const it = document.getElementById('limit-table').parentElement; return "
+        "it.scrollWidth - it.clientWidth"
+    )
+    assert page.driver.execute_script(cut) <= 0
     assert page.value() == value_of(rows)
 
 
@@ -197,7 +193,7 @@ def judge_looks(page: Page, case: Case) -> None:
     driver = page.driver
     page.click("#limit-table button")
     page.wait(lambda: driver.find_elements("css selector", "#picture .chosen"))
-    page.press("The limit")
+    page.press("The bottleneck")
     driver.execute_async_script("requestAnimationFrame(() => requestAnimationFrame(arguments[0]))")
     assert min(driver.execute_script(HEIGHTS)) >= 10.99
     judge_colours(page, case.width)

@@ -5,6 +5,7 @@ from __future__ import annotations
 
 import json
 import re
+import time
 from collections.abc import Iterator
 from pathlib import Path
 from typing import Any
@@ -52,17 +53,17 @@ def do(board: Board, what: str, **content: Any) -> Any:
 
 def rows(board: Board, filter: str = "", sort: str = "") -> list[tuple[Any, ...]]:
     found = told(board, "rows", filter=filter, sort=sort, first="0", count="99")["rows"]
-    return [(it["name"], it["flow"], it["capacity"], it["way"], it["changed"]) for it in found]
+    return [(it["name"], it["flow"], it["capacity"], it["way"], it["change"]) for it in found]
 
 
 def test_rows(board: Board) -> None:
     """One row for each pipe, and what flows back is as much as what flows there."""
     expected = [
-        ("one", "3", "5", "", False),
-        ("Main", "3", "3", "<", False),
-        ("by", "2", "2", "", False),
-        ("out", "5", "7", ">", False),
-        ("spare", "0", "4", "-", False),
+        ("one", "3", "5", "", ""),
+        ("Main", "3", "3", "<", ""),
+        ("by", "2", "2", "", ""),
+        ("out", "5", "7", ">", ""),
+        ("spare", "0", "4", "-", ""),
     ]
     assert rows(board) == expected
     assert [row[0] for row in rows(board, "flow > 2")] == ["one", "Main", "out"]
@@ -72,7 +73,6 @@ def test_rows(board: Board) -> None:
     assert [row[0] for row in rows(board, sort="-flow")] == ["out", "one", "Main", "by", "spare"]
     state = told(board, "state")
     assert (state["arcs"], [it["short"] for it in state["limit"]]) == (5, ["Main", "by"])
-    assert told(board, "opened")["arcs"] == [1, 2, 4, 5, 7]
 
 
 def test_one_selection(board: Board) -> None:
@@ -81,13 +81,16 @@ def test_one_selection(board: Board) -> None:
     closed = do(board, "close", arc=3)
     assert (closed["value"], closed["at"]) == ("2", 1)
     assert [step["text"] for step in closed["steps"]][1:] == ["close Main"]
-    assert rows(board, "closed") == [("Main", "0", "3", "-", True)]
+    assert rows(board, "closed") == [("Main", "0", "3", "-", "closed")]
     again = do(board, "open", arc=2)
     assert (again["value"], again["at"]) == ("5", 2)
     (number,) = told(board, "numbers", filter="Main", sort="", first="0", count="9")["numbers"]
     capped = do(board, "cap-all", arcs=[number, 5], capacity="+1")
     assert (capped["value"], capped["at"]) == ("6", 3)
-    assert rows(board, "changed") == [("out", "6", "8", ">", True), ("Main", "4", "4", "<", True)]
+    assert rows(board, "changed") == [
+        ("out", "6", "8", ">", "was 7"),
+        ("Main", "4", "4", "<", "was 3"),
+    ]
     doubled = do(board, "double-all", arcs=[5])
     assert (doubled["arcs"], doubled["value"]) == (6, "6")
     many = json.loads(board.post("many", {"arcs": [1, number, 5], "turn": board.desk.turn}).body)
@@ -120,7 +123,7 @@ def groups(board: Board) -> dict[str, ElementTree.Element]:
 
 def test_picture(board: Board) -> None:
     """One line for each, whose arrow points to where it flows: from B to C on Main."""
-    board.picture.places.spots.update(
+    board.shown.picture.places.spots.update(
         {1: Spot(0, 0), 2: Spot(300, 0), 3: Spot(0, 300), 4: Spot(300, 300), 5: Spot(600, 300)}
     )
     found = groups(board)
@@ -138,7 +141,7 @@ def test_picture(board: Board) -> None:
     assert all(tip > right for right, _ in others)
     assert points(found["arc-7"]) == []
     title = found["arc-2"].find(f"{{{SVG}}}title")
-    assert title is not None and title.text == "Main, C <-> B: 3 of 3 to C, full, limit"
+    assert title is not None and title.text == "Main, C <-> B: 3 of 3 to C, full, bottleneck"
     assert "closed" not in (found["arc-2"].get("class") or "")
     do(board, "close", arc=2)
     assert "closed" in (groups(board)["arc-2"].get("class") or "")
@@ -147,26 +150,29 @@ def test_picture(board: Board) -> None:
 def test_map(board: Board) -> None:
     """On a map the second arc is not drawn, and each has the sign of the way that it flows."""
     spots = {node: Spot(100.0 * node, 0) for node in range(1, 6)}
-    board.picture.places.spots.update(spots)
-    looks = Overview(board.desk, board.picture.places, board._looks).looks()
+    board.shown.picture.places.spots.update(spots)
+    looks = Overview(board.desk, board.shown.picture.places, board.shown.looks).looks()
     assert (looks["arcs"], looks["ways"]) == ("fl lf u ", "><" " >" "> " "- ")
 
 
-def test_sweep(board: Board) -> None:
-    """Each is tried once."""
-    found: list[Any] = []
-    left = told(board, "opened")["arcs"]
-    while left:
-        part = json.loads(board.post("sweep", {"arcs": left, "turn": board.desk.turn}).body)
-        found += part["trials"]
-        left = part["left"]
-    assert [(it["name"], it["without"]) for it in found] == [
+def test_worth(board: Board) -> None:
+    """Each has one loss, and one second one beside both its ways."""
+    while told(board, "worth")["is_finding"]:
+        time.sleep(0.02)
+    rows = told(board, "rows", filter="", sort="", first="0", count="9")["rows"]
+    assert [(it["name"], it["without"]) for it in rows] == [
         ("one", "2"),
         ("Main", "2"),
         ("by", "3"),
         ("out", "0"),
         ("spare", "5"),
     ]
+    arcs = [it["number"] for it in rows]
+    found: list[Any] = []
+    while arcs:
+        part = json.loads(board.post("seconds", {"arcs": arcs, "turn": board.desk.turn}).body)
+        found, arcs = found + part["seconds"], part["left"]
+    assert [it["number"] for it in found] == [it["number"] for it in rows]
 
 
 def test_page(driver: Any, tmp_path: Path) -> None:

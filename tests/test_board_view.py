@@ -124,7 +124,8 @@ def test_new_place_is_near(tmp_path: Path) -> None:
     with board(grid_table(tmp_path, 32)) as it:
         before = spots(it)
         tails = (
-            it.told(f"arc?number={number}")["tail_node"] for number in it.told("opened")["arcs"]
+            it.told(f"arc?number={number}")["tail_node"]
+            for number in range(1, it.state()["arcs"] + 1)
         )
         node = next(tail for tail in tails if f"node-{tail}" not in before)
         after = spots(it, str(node))
@@ -262,7 +263,7 @@ def judge_moves(page: Page, sink: str) -> None:
     page.press("All")
     assert is_in(page, sink)
     judge_wheel(page, host)
-    page.press("The limit")
+    page.press("The bottleneck")
     cut = page.driver.execute_script(
         "return [...document.querySelectorAll('#picture .cut')].map((it) => it.id)"
     )
@@ -369,8 +370,8 @@ def test_show_near(driver: Any, tmp_path: Path) -> None:
             "textContent"
         )
         assert label.startswith("right 30 2,")
-        page.press("Show what is near the limit")
-        page.wait(lambda: "nearest to the limit" in page.text("#drawn-note"))
+        page.press("Show what is near the bottleneck")
+        page.wait(lambda: "nearest to the bottleneck" in page.text("#drawn-note"))
         driver.get("about:blank")
 
 

@@ -40,7 +40,7 @@ def test_the_story_at_a_terminal(monkeypatch: pytest.MonkeyPatch) -> None:
 
 
 def told_by(it: Board) -> list[Any]:
-    """What a board tells of steps; and that its sweep is that of all sets of places."""
+    """What a board tells of steps; and that second pipes bring what all sets of places say."""
     told: list[Any] = []
     for step in (
         {"what": "close", "arc": 12},
@@ -56,9 +56,10 @@ def told_by(it: Board) -> list[Any]:
     left: list[int] = list(range(1, 15))
     rows: list[Any] = []
     while left:
-        portion = json.loads(it.post("sweep", arcs=left)[1])
-        left, rows = portion["left"], rows + portion["trials"]
-    assert {row["name"]: (int(row["without"]), int(row["doubled"])) for row in rows} == swept()
+        portion = json.loads(it.post("seconds", arcs=left)[1])
+        left, rows = portion["left"], rows + portion["seconds"]
+    doubled = {row["short"]: int(row["doubled"]) for row in rows}
+    assert doubled == {name: twice for name, (_, twice) in swept().items()}
     return told
 
 

@@ -11,6 +11,7 @@ import json
 import random
 import re
 import subprocess
+import time
 from collections.abc import Iterator
 from decimal import Decimal
 from fractions import Fraction
@@ -368,15 +369,21 @@ def test_dmf_board(page: Board) -> None:
         len(PIPES),
         6,
     )
-    left = page.told("opened")["arcs"]
-    trials: list[dict[str, Any]] = []
-    while left:
-        told_ = json.loads(page.post("sweep", arcs=left)[1])
-        trials, left = trials + told_["trials"], told_["left"]
-    assert {it["name"]: (it["without"], it["doubled"]) for it in trials} == {
-        pipe.name: (told(CLOSED[pipe.name]), told(DOUBLED[pipe.name])) for pipe in PIPES
+    while page.told("worth")["is_finding"]:
+        time.sleep(0.02)
+    rows = page.told("rows?filter=&sort=&first=0&count=100")["rows"]
+    assert {it["name"]: it["without"] for it in rows} == {
+        pipe.name: told(CLOSED[pipe.name]) for pipe in PIPES
     }
-    assert not any(word in json.dumps([state, trials]) for word in INNER)
+    left = [it["number"] for it in rows]
+    seconds: list[dict[str, Any]] = []
+    while left:
+        told_ = json.loads(page.post("seconds", arcs=left)[1])
+        seconds, left = seconds + told_["seconds"], told_["left"]
+    assert {it["short"]: it["doubled"] for it in seconds} == {
+        pipe.name: told(DOUBLED[pipe.name]) for pipe in PIPES
+    }
+    assert not any(word in json.dumps([state, rows, seconds]) for word in INNER)
 
 
 def test_a_board_that_changes(folder: Path) -> None:

@@ -235,13 +235,13 @@ def test_board() -> None:
         ("1", "4", "w", ("capacity > before", "capacity = 4", "changed")),
     ):
         do(board, "cap-ways", arc=2, capacity=there, back=back)
-        assert board._looks.marks([2])[0].change == mark
+        assert board.shown.looks.marks([2])[0].change == mark
         for filter in filters:
             words = {"filter": f"{filter} and Main", "sort": "", "first": "0", "count": "9"}
             found = json.loads(board.get("numbers", words).body)
             assert found["numbers"] == [2], (there, back, filter)
         do(board, "go", step=0)
-    assert board._looks.marks([2])[0].change == "."
+    assert board.shown.looks.marks([2])[0].change == "."
     # As a project of an older version may have it.
     desk.step("close one way", [Close(3)])
     assert both(2)[:2] == ("", "")

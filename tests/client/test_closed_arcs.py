@@ -98,11 +98,9 @@ def test_a_board() -> None:
     board = Board(desk)
     for what in "close", "open":
         assert board.post("do", {"what": what, "arc": 1, "turn": desk.turn}).status == 200
-    answer = board.post("sweep", {"arcs": [2, 3], "turn": desk.turn})
-    trials = [
-        (it["number"], it["without"], it["doubled"]) for it in json.loads(answer.body)["trials"]
-    ]
-    assert (answer.status, trials) == (200, [(2, str(HALF), str(HALF + 2)), (3, "1", "")])
+    answer = board.post("seconds", {"arcs": [2, 3], "turn": desk.turn})
+    seconds = [(it["number"], it["doubled"]) for it in json.loads(answer.body)["seconds"]]
+    assert (answer.status, seconds) == (200, [(2, str(HALF + 2)), (3, "")])
     desk.end()
 
 

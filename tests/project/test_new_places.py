@@ -171,15 +171,18 @@ def test_board(tmp_path: Path) -> None:
     assert (status, told["places"]) == (200, 10)
     assert end("new town") == (10, [], "")
     board.get("picture", {"near": ""})
-    spot = board.picture.places.spots[10]
+    spot = board.shown.picture.places.spots[10]
     ask(board, what="go", step=0)
     ask(board, what="add-new", head="Hill", tail=1, capacity="50", name="")
     assert "Hill" in json.loads(board.get("picture", {"near": ""}).body)["svg"]
-    hill = board.picture.places.spots[10]
+    hill = board.shown.picture.places.spots[10]
     assert hill != spot
     assert ask(board, what="add-new", head="New Town", **new)[0] == 200
     board.get("picture", {"near": ""})
-    assert (board.picture.places.spots[10], board.picture.places.spots[11]) == (hill, spot)
+    assert (board.shown.picture.places.spots[10], board.shown.picture.places.spots[11]) == (
+        hill,
+        spot,
+    )
     kept = project_of(desk).project.positions
     assert tuple(kept["New Town"]) == pytest.approx(spot, abs=0.01)
     desk.end()

@@ -7,6 +7,7 @@ from __future__ import annotations
 import csv
 import io
 import json
+import time
 from collections.abc import Iterator
 from decimal import Decimal
 from fractions import Fraction
@@ -58,14 +59,11 @@ def test_closures(page: Board) -> None:
     """What each pipe of the limit, and some others, mean: by closing each in the second
     computation."""
     names = {arc["name"] for arc in page.state()["limit"]} | {"R5", "R20", "R33"}
-    # Arcs are numbered by the rows.
-    left = [number for number, pipe in enumerate(town.pipes(), 1) if pipe.name in names]
-    trials: list[Any] = []
-    while left:
-        answer = json.loads(page.post("sweep", arcs=left)[1])
-        trials, left = trials + answer["trials"], answer["left"]
-    assert {trial["name"] for trial in trials} == names
-    assert {trial["name"]: trial["without"] for trial in trials} == {
+    while page.told("worth")["is_finding"]:
+        time.sleep(0.02)
+    rows = page.told("rows?filter=&sort=&first=0&count=500")["rows"]
+    without = {row["name"]: row["without"] for row in rows}
+    assert {name: without[name] for name in names} == {
         name: told(town.wanted(name).value) for name in names
     }
 

@@ -1,11 +1,12 @@
 """What each arc is worth, and what a greater value costs.
 
-A sweep tries each arc alone: closed, and with a second one beside it. A cheap way to a greater
-value is found greedily, by what a column of the table says each unit more costs at an arc, or a
-second arc beside it. It goes from limit to limit: it widens the cheapest arc of the present one,
-and where the value does not grow for another limit behind it, the cheapest arc of that too. Each
-value on it is a greatest one, but a cheaper way may exist: least-cost flows and exact budgets are
-the business of other solvers."""
+What is lost without an arc is one answer for all of them. What a second one beside it brings is
+tried by a sweep, for each arc of the limit alone. A cheap way to a greater value is found greedily,
+by what a column of the table says each unit more costs at an arc, or a second arc beside it. It
+goes from limit to limit: it widens the cheapest arc of the present one, and where the value does
+not grow for another limit behind it, the cheapest arc of that too. Each value on it is a greatest
+one, but a cheaper way may exist: least-cost flows and exact budgets are the business of other
+solvers."""
 
 from __future__ import annotations
 
@@ -20,69 +21,78 @@ from ..quantity import EXACT, LARGEST, Quantity, QuantityFault, magnitude, numbe
 from ..sweeps.cases import SweepResult, sweep
 from ..tables.titles import title_of
 from ..text.spelling import quoted_name
-from .steps import DeskFault, Node, Trial
+from .steps import DeskFault, Node, Second, Trial
 from .workspace import Desk
-from .worth import judge_greatest
+from .worth import judge_greatest, losses
 
 
-def trials_of(desk: Desk, numbers: Iterable[int]) -> Generator[Trial, None, None]:
-    """Return a sweep over these pipes: the greatest values if each alone is closed, and if each
-    alone has a second one beside it. Each is tried on a copy of the network as it is at the call,
-    on all processors. Raise a `DeskFault` unless the flow is greatest and the pipes are open."""
+def trials_of(desk: Desk, numbers: Iterable[int]) -> Iterator[Trial]:
+    """Return what these pipes mean for the value: the greatest one if each alone is closed, and if
+    each alone has a second one beside it. Raise a `DeskFault` unless the flow is greatest and the
+    pipes are open."""
+    wanted = list(numbers)
+    seconds = seconds_of(desk, wanted)
+    found = losses(desk, wanted)
+    return (Trial(it.number, it.left, second.doubled) for it, second in zip(found, seconds))
+
+
+def seconds_of(desk: Desk, numbers: Iterable[int]) -> Generator[Second, None, None]:
+    """Return a sweep over these pipes: the greatest values if each alone has a second one beside
+    it. Each is tried on a copy of the network as it is at the call, on all processors. Raise a
+    `DeskFault` unless the flow is greatest and the pipes are open."""
     judge_greatest(desk)
     wanted = list(numbers)
     for number in wanted:
         desk.network.open_arcs(number)
     desk.follow()
-    return trials(desk, wanted)
+    return _seconds_tried(desk, wanted)
 
 
-def trials(desk: Desk, wanted: Iterable[int]) -> Generator[Trial, None, None]:
+def _seconds_tried(desk: Desk, numbers: list[int]) -> Generator[Second, None, None]:
     """Return the same, for open pipes and a greatest flow."""
-    held, value = desk.network, desk.value
-    numbers, cut, quantity = list(wanted), set(desk.cut_arcs()), held.measure.quantity
-    # Closing an arc that carries nothing leaves the flow as it is. A second arc beside one that is
-    # not in the cut leaves the cut as it is, and so the value, if there is room for its capacity.
+    held, value, cut = desk.network, desk.value, set(desk.cut_arcs())
+    # A second arc beside one that is not in the cut leaves the cut as it is, and so the value, if
+    # there is room for its capacity.
     room = LARGEST - sum(
         map(held.whole, (number for number, line in enumerate(held.lines, 1) if not line.is_closed))
     )
-    seconds = {number: held.second(number) for number in numbers}
-    following = {number: held.following(added) for number, added in seconds.items()}
-    flows, whole = desk.flows(), held.measure.whole
-    carrying = {number for number in numbers if flows[number - 1]}
-    cases: list[list[tuple[object, ...]]] = []
-    for number in numbers:
-        if number in carrying:
-            cases.append([("close", held.handle(arc)) for arc in held.open_arcs(number)])
-        if number in cut:
-            adds = [
-                ("add", held.node_of(add.tail), held.node_of(add.head), whole(add.capacity))
-                for add in seconds[number]
-            ]
-            others = [
-                ("cap", held.handle(cap.arc), whole(cap.capacity)) for cap in following[number]
-            ]
-            cases.append([*adds, *others])
-    wholes = {
-        number: sum(whole(add.capacity) for add in seconds[number])
-        + sum(whole(it.capacity) - held.whole(it.arc) for it in following[number])
-        for number in numbers
-    }
+    has_room = {number: _second_size(desk, number) <= room for number in numbers}
+    cases = [_second_case(desk, number) for number in numbers if number in cut]
     jobs = max(1, min(len(cases), len(os.sched_getaffinity(0))))
     # The desk may change before the trials are asked for; each is of the network as it is now.
-    results = sweep(held.network, cases, jobs=jobs)
+    results, quantity = sweep(held.network, cases, jobs=jobs), held.measure.quantity
 
-    def found() -> Generator[Trial, None, None]:
+    def found() -> Generator[Second, None, None]:
         with contextlib.closing(results):
             for number in numbers:
-                closed = quantity(_greatest(next(results))) if number in carrying else value
-                doubled = value if wholes[number] <= room else None
+                doubled = value if has_room[number] else None
                 if number in cut:
                     greatest = _greatest_or_none(next(results))
                     doubled = None if greatest is None else quantity(greatest)
-                yield Trial(number, closed, doubled)
+                yield Second(number, doubled)
 
     return found()
+
+
+def _second_case(desk: Desk, number: int) -> list[tuple[object, ...]]:
+    """Return the commands that put a second one beside a pipe."""
+    network, whole = desk.network, desk.network.measure.whole
+    added = network.second(number)
+    adds = [
+        ("add", network.node_of(add.tail), network.node_of(add.head), whole(add.capacity))
+        for add in added
+    ]
+    follow = network.following(added)
+    return [*adds, *(("cap", network.handle(it.arc), whole(it.capacity)) for it in follow)]
+
+
+def _second_size(desk: Desk, number: int) -> int:
+    """Return by how much a second one beside a pipe raises the sum of the capacities."""
+    network, whole = desk.network, desk.network.measure.whole
+    added = network.second(number)
+    return sum(whole(add.capacity) for add in added) + sum(
+        whole(it.capacity) - network.whole(it.arc) for it in network.following(added)
+    )
 
 
 def _greatest(result: SweepResult[Node]) -> int:
@@ -265,7 +275,7 @@ def _seconds(desk: Desk, given: Prices, wanted: Quantity, way: Way) -> Iterator[
         }
         gains = {
             it.arc: EXACT.subtract(it.doubled, desk.value)
-            for it in trials_of(desk, offers)
+            for it in seconds_of(desk, offers)
             if it.doubled is not None and it.doubled > desk.value
         }
         if not gains:

@@ -157,10 +157,16 @@ class Step:
         return isinstance(self.changes[-1], Solve)
 
 
-@dataclass(frozen=True)
-class Trial:
-    """The greatest values if an arc is closed, and if a second arc of its capacity is added beside
-    it. The second is None if the sum of the capacities would exceed 64 bits."""
+class Second(NamedTuple):
+    """The greatest value if a second arc of its capacity is added beside an arc, or None if the sum
+    of the capacities would exceed 64 bits."""
+
+    arc: int
+    doubled: Quantity | None
+
+
+class Trial(NamedTuple):
+    """The greatest values if an arc is closed, and if it has a second one as in `Second`."""
 
     arc: int
     closed: Quantity

@@ -1,112 +1,18 @@
-"""What a request does to the desk: changes of one arc or of many, of scenarios, and sweeps, which
-are answered in portions."""
+"""What a request does to the desk: changes of one arc or of many, and of scenarios."""
 
 from __future__ import annotations
 
-import contextlib
-import queue
-import threading
-import time
-from collections.abc import Callable, Generator
+from collections.abc import Callable
 from typing import NamedTuple
 
 from ...quantity import Quantity
 from ...text.spelling import cleaned
 from ...text.table_comments import listed
-from ..analysis import trials_of
 from ..expressions import amount, capacities
 from ..project.scenarios import project_of
-from ..steps import DeskFault, MakePlace, Place, Trial
+from ..steps import DeskFault, MakePlace, Place
 from ..workspace import Desk
 from .responses import Fields, Json
-
-# How long a request may sweep before it answers with the results so far, in seconds.
-PORTION = 0.15
-# How long a sweep waits for the next such request before it ends its copies of the network, and how
-# long its end is waited for, in seconds.
-PATIENCE, ENDING = 5.0, 0.5
-
-
-class BackgroundSweep:
-    """A sweep in a thread of its own, so that no request waits for a result that takes long."""
-
-    def __init__(self, trials: Generator[Trial, None, None]) -> None:
-        self._trials = trials
-        self._found: queue.SimpleQueue[Trial | Exception] = queue.SimpleQueue()
-        self._is_over = False
-        self._thread = threading.Thread(target=self._run, daemon=True)
-        self._thread.start()
-
-    def _run(self) -> None:
-        try:
-            with contextlib.closing(self._trials):
-                for trial in self._trials:
-                    self._found.put(trial)
-                    if self._is_over:
-                        return
-        except Exception as error:
-            self._found.put(error)
-
-    def portion(self, most: int) -> list[Trial]:
-        """Return the next results, as many as come in the time of a portion. Raise what the sweep
-        raises."""
-        until = time.monotonic() + PORTION
-        trials: list[Trial] = []
-        with contextlib.suppress(queue.Empty):
-            while len(trials) < most:
-                found = self._found.get(timeout=max(until - time.monotonic(), 0))
-                if isinstance(found, Exception):
-                    raise found
-                trials.append(found)
-        return trials
-
-    def end(self) -> None:
-        """End it, with its next result at the latest."""
-        self._is_over = True
-        self._thread.join(ENDING)
-
-
-class Sweeps:
-    """The sweep of a desk that is running, if there is one."""
-
-    def __init__(self, desk: Desk) -> None:
-        self._desk = desk
-        # The sweep, and the arcs that it has not tried yet.
-        self._sweep: BackgroundSweep | None = None
-        self._left: list[int] = []
-        self._lock = threading.Lock()
-        self._end = threading.Timer(0, self.end)
-
-    def end(self) -> None:
-        """End the sweep that has not ended, if there is one."""
-        with self._lock:
-            self._end.cancel()
-            if self._sweep:
-                self._sweep.end()
-            self._sweep, self._left = None, []
-
-    def portion(self, numbers: list[int]) -> list[Trial]:
-        """Return the results for the first arcs, as many as the time of a portion allows. The next
-        portion goes on with the same copies of the network, if it is asked for in time. Where no
-        arc is left to try, as after a stop, they end at once."""
-        if not self._left or numbers[: len(self._left)] != self._left:
-            self.end()
-        if not numbers:
-            return []
-        with self._lock:
-            self._end.cancel()
-            going_on = self._sweep or BackgroundSweep(trials_of(self._desk, numbers))
-            left = self._left or numbers
-            # If this raises, the sweep is over.
-            self._sweep, self._left = None, []
-            trials = going_on.portion(len(left))
-            if len(trials) < len(left):
-                self._sweep, self._left = going_on, left[len(trials) :]
-                self._end = threading.Timer(PATIENCE, self.end)
-                self._end.daemon = True
-                self._end.start()
-        return trials
-
 
 MOST_NAMED = 3
 

@@ -15,6 +15,7 @@ from ...text.lexical import display
 from ...text.table_comments import AT_PLACE
 from ..export import MOST_DRAWN
 from ..project.comparison import (
+    BOTTLENECK,
     OPEN,
     ArcDifference,
     ArcState,
@@ -278,7 +279,7 @@ def _amounts(differs: ArcDifference | None) -> str:
         if it.amounts:
             return it.amounts
         capacity = "" if it.is_unlimited or not has_capacity else f"/{plain_text(it.capacity)}"
-        return plain_text(it.flow) + capacity + ", limit" * (has_limit and it.is_limit)
+        return plain_text(it.flow) + capacity + f", {BOTTLENECK}" * (has_limit and it.is_limit)
 
     return f"{told(one)} → {told(two)}"
 
@@ -296,7 +297,7 @@ def _fill_arc(group: ElementTree.Element, arc: _Found, label: str, number: int) 
     marked(
         group,
         ["arc", differs.kind],
-        f"{label}: {differs.first.told()}, then {differs.second.told()}",
+        f"{label}: {differs.first.told(BOTTLENECK)}, then {differs.second.told(BOTTLENECK)}",
     )
 
 
@@ -305,7 +306,8 @@ def _fill_place(group: ElementTree.Element, name: str, roles: Iterable[_Found]) 
     for text, arc in zip(group.findall(f"{{{SVG}}}text")[1:], roles):
         if arc.differs:
             text.set("class", arc.differs.kind)
-            label += f", {arc.differs.first.told()}, then {arc.differs.second.told()}"
+            first, second = arc.differs.first, arc.differs.second
+            label += f", {first.told(BOTTLENECK)}, then {second.told(BOTTLENECK)}"
     marked(group, ["node"], label)
 
 
@@ -343,8 +345,8 @@ class Comparisons:
                 "number": numbers.get(it.known, 0),
                 "node": self._node(it.known),
                 "kind": it.kind,
-                "first": it.first.told(),
-                "second": it.second.told(),
+                "first": it.first.told(BOTTLENECK),
+                "second": it.second.told(BOTTLENECK),
             }
             for it in found.arcs[first : first + count]
         ]

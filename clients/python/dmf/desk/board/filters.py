@@ -7,22 +7,21 @@ from collections.abc import Callable
 from itertools import groupby
 
 from ...quantity import EXACT, Quantity, QuantityFault, magnitude, number_in
+from ...session.base import Part
 from ...text.spelling import folded, quoted_name
-from ..expressions import COMPARED, Condition, condition
+from ..expressions import COMPARED, Condition, amount, condition
 from ..steps import DeskFault
 from ..workspace import Desk
+from ..worth import left_without
 from .looks import Beginning
 
 AND, NOT, BEFORE = "and", "not", "before"
-FORMS = (
-    "a part of a name, or use > 80, flow >= 10, capacity < 60, flow > before, from ~ Mill, to ~ "
-    'Mill, full, limit, closed, added, changed; with "and" between two, and "not" before one'
-)
-# Other names of columns on the page.
+# Other names of columns on the page, and of what dmf-plan calls the limit.
 _CALLED = {"flows": "flow", "fits": "capacity", "carries": "capacity"}
+_CONDITIONS = {"bottleneck": "limit"}
 # The longest signs come first.
 _SIGN = re.compile(
-    rf"(name|from|to|capacity|flow|use|{'|'.join(_CALLED)})\s*"
+    rf"(name|from|to|capacity|flow|use|lost|{'|'.join(_CALLED)})\s*"
     rf"(~|{'|'.join(sorted(COMPARED, key=len, reverse=True))})(.*)",
     re.IGNORECASE | re.DOTALL,
 )
@@ -82,9 +81,10 @@ class Filters:
 
     def _named(self, part: str) -> Reading:
         """Return the condition that is one word, or else that the name has this part."""
-        found = condition(self._desk, [part.casefold()])
+        word = part.casefold()
+        found = condition(self._desk, [_CONDITIONS.get(word, word)])
         if found:
-            return found, part.casefold()
+            return found, word
         if any(sign in part.split() for sign in COMPARED):
             raise _wrong(part)
         name = _unquoted(part)
@@ -92,14 +92,17 @@ class Filters:
         return lambda number: sought in self._label(number), f"{quoted_name(name)} in the name"
 
     def _compared(self, words: list[str]) -> Condition | None:
-        """Return a condition that only the table has: on how much of a capacity is used, or against
-        the beginning. Return None if the words are not one of these."""
+        """Return a condition that only the table has: on how much of a capacity is used, on what is
+        lost without an arc, or against the beginning. Return None if the words are not one of
+        these."""
         column, sign, *rest = words
         text = " ".join(rest)
         if sign not in COMPARED or not text:
             return None
         if column == "use":
             return self._used(sign, text)
+        if column == "lost":
+            return self._lost(sign, text)
         if text.casefold() != BEFORE:
             return None
         return self._since(column, COMPARED[sign])
@@ -122,6 +125,20 @@ class Filters:
 
         return holds
 
+    def _lost(self, sign: str, text: str) -> Condition:
+        """Return the condition on what is lost without an arc. A closed one is never meant."""
+        desk, worth = self._desk, self._desk.state.answers.worth.get(Part.ARC)
+        if worth is None:
+            raise DeskFault("what is lost without each one is not known yet")
+        network, is_so, found = desk.network, COMPARED[sign], worth
+        bound = amount(text, network.measure)
+
+        def holds(number: int) -> bool:
+            lost = network.measure.quantity(found.value - left_without(desk, found, number))
+            return not network.pipes.pipe(number).is_closed and is_so(lost, bound)
+
+        return holds
+
     def _since(self, column: str, is_so: Callable[[Quantity, Quantity], bool]) -> Condition | None:
         """Return the condition on a flow or a capacity against that of the beginning, which an arc
         that was added does not have. Return None for another column."""
@@ -141,7 +158,7 @@ class Filters:
 
 
 def _wrong(part: str) -> DeskFault:
-    return DeskFault(f"{quoted_name(part)} is not a condition; type {FORMS}")
+    return DeskFault(f"{quoted_name(part)} is not a condition of the filter")
 
 
 def _unquoted(text: str) -> str:

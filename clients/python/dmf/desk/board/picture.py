@@ -5,7 +5,7 @@ from __future__ import annotations
 
 import re
 from collections import Counter
-from collections.abc import Iterable, Iterator, Sequence
+from collections.abc import Collection, Iterable, Iterator, Sequence
 from dataclasses import dataclass
 from typing import NamedTuple
 from xml.etree import ElementTree
@@ -286,7 +286,7 @@ class Picture:
                 group,
                 "arc",
                 looks,
-                f"{network.names.arc(number)}: {spoken(desk, number)}{', limit' * (number in cut)}",
+                f"{network.names.arc(number)}: {spoken(desk, number, cut)}",
             )
         for it in shape.nodes:
             group = groups[f"node-{it.node}"]
@@ -297,7 +297,7 @@ class Picture:
             for text, (number, words, _) in zip(group.findall(f"{{{SVG}}}text")[1:], it.roles):
                 text.text = f"{words} {_amounts(desk, number)}"
                 text.set("class", "cut" if number in cut else "")
-                label += f", {words} {spoken(desk, number)}{', limit' * (number in cut)}"
+                label += f", {words} {spoken(desk, number, cut)}"
             is_cut = any(number in cut for number, *_ in it.roles)
             _mark(
                 group,
@@ -337,8 +337,12 @@ def _amounts(desk: Desk, number: int) -> str:
     )
 
 
-def spoken(desk: Desk, number: int) -> str:
-    """Return the flow on a pipe, in words."""
+def spoken(desk: Desk, number: int, cut: Collection[int]) -> str:
+    """Return the flow on a pipe in words, and whether it is one of this bottleneck."""
+    return _flow_words(desk, number) + ", bottleneck" * (number in cut)
+
+
+def _flow_words(desk: Desk, number: int) -> str:
     network = desk.network
     pipe, flow = network.pipe(number), desk.flow(number)
     if pipe.is_closed:

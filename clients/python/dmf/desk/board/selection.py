@@ -8,7 +8,7 @@ from collections import defaultdict
 from collections.abc import Callable, Iterable
 from typing import Any
 
-from ...quantity import magnitude
+from ...quantity import magnitude, plain_text
 from ...session.base import Part
 from ...text.drawing import spread
 from ...text.spelling import folded
@@ -101,6 +101,7 @@ class ArcList:
 
     def __init__(self, desk: Desk, beginning: Beginning) -> None:
         self._desk = desk
+        self._beginning = beginning
         self._filters = Filters(desk, beginning, self._label)
         self._labels: dict[int, str] = {}
         self._kept: tuple[tuple[int, str, str, bool], list[int]] | None = None
@@ -118,9 +119,9 @@ class ArcList:
             )
         except DeskFault as why:
             reading, numbers, fault = "", [], str(why)
-        changed, shown = self._desk.network.changed(), numbers[first : first + count]
+        shown = numbers[first : first + count]
         rows = [
-            {**arc, "changed": arc["number"] in changed}
+            {**arc, "change": self._change(arc["number"])}
             for arc in with_worth(self._desk, arc_views(self._desk, shown))
         ]
         return {
@@ -178,6 +179,7 @@ class ArcList:
             "capacity": lambda number: network.pipes.pipe(number).room(flows[number - 1]),
             "use": self._use,
             "lost": self._lost,
+            "change": lambda number: (not (text := self._change(number)), natural(text)),
         }
         if column not in columns:
             raise WrongForm(f"the column must be one of {', '.join(columns)}")
@@ -192,6 +194,16 @@ class ArcList:
         flow = network.measure.quantity(flows[number - 1])
         room = pipe.room(flow)
         return float(magnitude(flow)) / float(room) if room else 0.0
+
+    def _change(self, number: int) -> str:
+        """Return in words what was changed at an arc, or nothing if that is as at the beginning."""
+        if self._desk.network.pipes.pipe(number).is_closed:
+            return "closed"
+        capacities = self._beginning.capacities(number, self._desk.flow(number))
+        if capacities is None:
+            return "new"
+        before, now = capacities
+        return "" if before == now else f"was {plain_text(before)}"
 
     def _lost(self, number: int) -> int:
         """Return what is lost without an arc: nothing while that is not known."""

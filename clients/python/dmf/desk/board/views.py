@@ -15,7 +15,7 @@ from ..demands import told_demands
 from ..expressions import amount, successors
 from ..pipes import TwoWayPipe, other_way, way_sign
 from ..project.scenarios import Scenarios
-from ..steps import DeskFault, Place, Trial, UnknownPlace
+from ..steps import DeskFault, Place, Second, UnknownPlace
 from ..workspace import Desk
 from ..worth import left_without, left_without_place, losses, worst, worst_places
 from .responses import Json, whole
@@ -338,27 +338,20 @@ def costs_view(desk: Desk, column: str, to: str, second: str) -> Json:
     }
 
 
-def opened_view(desk: Desk) -> Json:
-    """Return the pipes that can be tried: the open ones of the table and those that were added."""
-    return {"arcs": desk.network.opened_pipes()}
-
-
 # The number of digits of a session's largest number.
 DIGITS = 20
 
 
-def trial_view(desk: Desk, trial: Trial) -> Json:
-    """Return what an arc means for the value: what is lost without it, and gained by a second one
-    beside it; empty if that is nothing. The same in digits of one length sorts as texts do."""
-    value, whole_of = desk.value, desk.network.measure.whole
-    doubled = value if trial.doubled is None else trial.doubled
-    lost, won = EXACT.subtract(value, trial.closed), EXACT.subtract(doubled, value)
+def second_view(desk: Desk, second: Second) -> Json:
+    """Return the greatest value if an arc has a second one beside it, or nothing if that is too
+    large; what it brings, or nothing if it brings none; and the same in digits of one length, which
+    sorts as texts do."""
+    doubled = second.doubled
+    won: Quantity = 0 if doubled is None else EXACT.subtract(doubled, desk.value)
     return {
-        **arc_view(desk, trial.arc),
-        "without": plain_text(trial.closed),
-        "doubled": "" if trial.doubled is None else plain_text(trial.doubled),
-        "lost": plain_text(lost) if lost else "",
+        "number": second.arc,
+        "short": desk.network.names.short(second.arc),
+        "doubled": "" if doubled is None else plain_text(doubled),
         "won": plain_text(won) if won else "",
-        "loss": f"{whole_of(lost):0{DIGITS}d}",
-        "gain": f"{whole_of(won):0{DIGITS}d}",
+        "gain": f"{desk.network.measure.whole(won):0{DIGITS}d}",
     }

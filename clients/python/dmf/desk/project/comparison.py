@@ -35,8 +35,9 @@ class ArcState(NamedTuple):
     is_unlimited: bool = False
     amounts: str = ""
 
-    def told(self) -> str:
-        """Return the state in words: `45 of 45, limit`."""
+    def told(self, limit: str = "limit") -> str:
+        """Return the state in words: `45 of 45, limit`. The page and a report have another word
+        for the limit."""
         if self.state != OPEN:
             return self.state
         amounts = self.amounts or (
@@ -44,9 +45,11 @@ class ArcState(NamedTuple):
             if self.is_unlimited
             else f"{plain_text(self.flow)} of {plain_text(self.capacity)}"
         )
-        return amounts + ", limit" * self.is_limit
+        return amounts + f", {limit}" * self.is_limit
 
 
+# The planner's word for the limit, on the page and in a report.
+BOTTLENECK = "bottleneck"
 _ABSENT = ArcState(ABSENT, 0, 0, False)
 
 

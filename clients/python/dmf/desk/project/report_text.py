@@ -11,7 +11,7 @@ from typing import NamedTuple
 from ... import __version__
 from ...quantity import EXACT, Quantity, moved, plain_text
 from ...text.lexical import display
-from .comparison import ArcDifference
+from .comparison import BOTTLENECK, ArcDifference
 from .report_findings import Demand, Findings, Section, Tried
 from .scenarios import BASE
 
@@ -193,7 +193,10 @@ def _demands(demands: tuple[Demand, ...], unit: str) -> Iterator[str]:
 
 def _differences(differences: tuple[ArcDifference, ...]) -> Iterator[str]:
     yield f"<h3>What differs from {BASE}</h3>"
-    rows = [[_text(it.arc), _text(it.first.told()), _text(it.second.told())] for it in differences]
+    rows = [
+        [_text(it.arc), _text(it.first.told(BOTTLENECK)), _text(it.second.told(BOTTLENECK))]
+        for it in differences
+    ]
     yield from _table([("", False), (BASE, False), ("here", False)], rows)
 
 

@@ -45,7 +45,8 @@ function aboutArc(arc) {
   const to = "<>".includes(arc.way) && arc.way ? ` to ${arc.way === "<" ? arc.tail : arc.head}` : "";
   const other = arc.other_way ? `, and the other way ${arc.other_way}` : "";
   const words = arc.closed ? "It is closed." : `${arc.flow} of ${arc.capacity}${units()} flow${to}${other}. ${is}`
-    + (arc.limit ? ", and part of the limit: a wider one may bring more." : ", and no part of the limit: a wider one brings nothing.");
+    + (arc.limit ? ", and part of the bottleneck: a wider one may bring more."
+      : ", and not part of the bottleneck: a wider one brings nothing.");
   /** @type {HTMLElement[]} */
   const about = [make("h3", arc.short), make("p", `${where(arc)}. ${words}`)];
   if (arc.closed) return [...about, button("Open it again", () => act({ what: "open", arc: arc.number }, `${arc.short} is open`))];
@@ -92,8 +93,8 @@ function settingBoth(arc) {
  */
 function aboutRole(arc) {
   const most = arc.unlimited ? `no limit, and ${arc.flow}${units()} flow` : `${arc.capacity}${units()}, of which ${arc.flow} flow`;
-  const limit = arc.unlimited ? "" : arc.limit ? " It is part of the limit: more may bring more."
-    : arc.full ? " That is all, and no part of the limit: more brings nothing." : "";
+  const limit = arc.unlimited ? "" : arc.limit ? " It is part of the bottleneck: more may bring more."
+    : arc.full ? " That is all, and not part of the bottleneck: more brings nothing." : "";
   return [make("p", `${upper(arc.short)}: ${most}.${limit}`),
     setting(arc.unlimited ? { ...arc, capacity: "" } : arc, upper(arc.short), `capacity-${arc.number}`)];
 }

@@ -10,23 +10,25 @@
 /** @type {Shade} */
 const CLOSED = { words: "closed", ink: "unused", filter: "closed", isDashed: true, has: (mark) => mark.state === "c" };
 /** @type {Shade} */
-const LIMIT = { words: "bottleneck", ink: "limit", filter: "limit", has: (mark) => mark.state === "l" };
+const LIMIT = { words: "bottleneck", ink: "limit", filter: "bottleneck", has: (mark) => mark.state === "l" };
 /** @type {Shade[]} */
 const USE = [
   LIMIT,
-  { words: "full", ink: "use-4", filter: "full and not limit", has: (mark) => mark.state === "F" },
-  { words: "80–99 %", ink: "use-3", filter: "use >= 80 and not full and not limit", has: (mark) => mark.state === "f" && mark.use >= 8 },
-  { words: "50–79 %", ink: "use-2", filter: "use >= 50 and use < 80 and not limit", has: (mark) => mark.state === "f" && mark.use >= 5 },
-  { words: "under 50 %", ink: "use-1", filter: "flow > 0 and use < 50 and not limit", has: (mark) => mark.state === "f" },
+  { words: "full", ink: "use-4", filter: "full and not bottleneck", has: (mark) => mark.state === "F" },
+  { words: "80–99 %", ink: "use-3", filter: "use >= 80 and not full and not bottleneck",
+    has: (mark) => mark.state === "f" && mark.use >= 8 },
+  { words: "50–79 %", ink: "use-2", filter: "use >= 50 and use < 80 and not bottleneck",
+    has: (mark) => mark.state === "f" && mark.use >= 5 },
+  { words: "under 50 %", ink: "use-1", filter: "flow > 0 and use < 50 and not bottleneck", has: (mark) => mark.state === "f" },
   CLOSED,
-  { words: "no flow", ink: "unused", filter: "flow = 0 and not closed and not limit", has: () => true },
+  { words: "no flow", ink: "unused", filter: "flow = 0 and not closed and not bottleneck", has: () => true },
 ];
 /** @type {Shade[]} */
 const BOTTLENECK = [
   LIMIT,
-  { words: "full elsewhere", ink: "use-4", filter: "full and not limit", has: (mark) => mark.state === "F" },
+  { words: "full elsewhere", ink: "use-4", filter: "full and not bottleneck", has: (mark) => mark.state === "F" },
   CLOSED,
-  { words: "a wider one brings nothing", ink: "unused", filter: "not limit and not full and not closed", has: () => true },
+  { words: "a wider one brings nothing", ink: "unused", filter: "not bottleneck and not full and not closed", has: () => true },
 ];
 /** @type {Shade[]} */
 const CHANGE = [

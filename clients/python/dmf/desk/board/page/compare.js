@@ -93,8 +93,8 @@ function showTable() {
   at("take-difference").setAttribute("href", `difference.svg?${words}`);
   at("compare-values").replaceChildren(`${first.name}: `, make("strong", first.value), `${units()}. ${second.name}: `,
     make("strong", second.value), `${units()}: ${told.moved}.`);
-  const limits = told.same_limit ? [`The limit is the same: ${limitOf(first)}.`]
-    : [first, second].map((it) => `The limit of ${it.name}: ${limitOf(it)}.`);
+  const limits = told.same_limit ? [`The bottleneck is the same: ${limitOf(first)}.`]
+    : [first, second].map((it) => `The bottleneck of ${it.name}: ${limitOf(it)}.`);
   replace(at("compare-limits"), limits.map((text) => make("p", text)));
   const some = rows.length < total ? `, of which the first ${rows.length} are listed` : "";
   at("compare-count").textContent = total ? `${total} differ${total === 1 ? "s" : ""}${some}.` : `No ${noun()} differs.`;

@@ -30,8 +30,8 @@ function show(told) {
   const rest = told.limit_count - told.limit.length, what = told.second ? "a second one" : `one more${units() && ` (${units().trim()})`}`;
   at("costs-told").textContent = `By the column “${told.title}”. The way is found greedily, so a cheaper one may exist.`
     + (told.end ? ` It ends there: ${told.end}.` : "")
-    + (rest ? ` The first ${told.limit.length} of ${told.limit_count} of the limit:` : "");
-  fill("costs-limit", `what ${what} costs at each ${noun()} of the limit`, [upper(noun()), "costs"],
+    + (rest ? ` The first ${told.limit.length} of ${told.limit_count} of the bottleneck:` : "");
+  fill("costs-limit", `what ${what} costs at each ${noun()} of the bottleneck`, [upper(noun()), "costs"],
     told.limit.map((arc) => [pick(arc), numberCell(arc.price || "no price")]));
   const rows = told.way.map((it) => [
     cell(it.wider.map((arc) => (told.second ? `a second ${arc.short}` : `${arc.short} ${arc.by} wider`)).join(" and ")),

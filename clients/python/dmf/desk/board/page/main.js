@@ -1,5 +1,6 @@
 /** The page of a board: which part of it shows what. */
 import { beginAddress, nameShown } from "./address.js";
+import { beginBottleneck, showBottleneck } from "./bottleneck.js";
 import { watchChoice } from "./choice.js";
 import { showChosen, showClosing } from "./chosen.js";
 import { beginCosts, showOldCosts } from "./costs.js";
@@ -18,15 +19,14 @@ import { begin, watch } from "./state.js";
 import { beginSteps, showSteps } from "./steps.js";
 import { beginKeeping, showSummary } from "./summary.js";
 import { beginTable, goToChosen, showFiltered, showForms, showRows, showTable } from "./table.js";
-import { beginTrials, showOutdated } from "./trials.js";
 import { findWorth, watchWorth } from "./worth.js";
 
-const watchers = [showOutdated, showSummary, showSteps, showChosen, sayPicture, showPicture, showForms, showTable, applyFilter, followMany];
-watchers.push(showScenarios, nameShown, showOldCosts);
-for (const watcher of watchers) watch(watcher);
+const watchers = [showSummary, showBottleneck, showSteps, showChosen, sayPicture, showPicture, showForms, showTable, applyFilter];
+for (const watcher of [...watchers, followMany, showScenarios, nameShown, showOldCosts]) watch(watcher);
 watch(findWorth);
 watchWorth(showClosing);
 watchWorth(showTable);
+watchWorth(applyFilter);
 watchChoice(mark);
 watchChoice((chosen) => chosen && openChosen());
 watchChoice(revealChosen);
@@ -44,7 +44,7 @@ document.addEventListener("keydown", (event) => {
 });
 beginPanel();
 beginSteps();
-beginTrials();
+beginBottleneck();
 beginFinding();
 beginPicture();
 beginLegend(mark);

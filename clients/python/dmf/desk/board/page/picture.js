@@ -90,7 +90,7 @@ async function showTold(told, turn) {
   await lookAtGround(told.has_ground);
   if (turn !== asked) return;
   count = told.arcs.length;
-  const where = near && theChoice()?.node ? "the chosen place" : near ? "a place" : "the limit";
+  const where = near && theChoice()?.node ? "the chosen place" : near ? "a place" : "the bottleneck";
   const part = isGround() ? `All ${present().arcs} are drawn. Move in to read their names and numbers. `
     : isPart() ? `${count} of ${present().arcs}: what lies nearest to ${where}. ` : "";
   at("drawn-note").classList.toggle("reason", Boolean(told.reason));
@@ -231,7 +231,7 @@ export function beginPicture() {
   onClick("larger", () => zoom(LARGER));
   onClick("smaller", () => zoom(1 / LARGER));
   onClick("fit-all", fitAll);
-  for (const id of ["fit-limit", "show-limit", "beyond"]) onClick(id, () => fitTo(".cut", "The limit"));
+  for (const id of ["fit-limit", "show-limit", "beyond"]) onClick(id, () => fitTo(".cut", "The bottleneck"));
   onClick("fit-chosen", () => (pickedCount() || theChoice() ? fitTo(".chosen", "What is chosen") : fitAll()));
   onClick("near-limit", () => {
     near = "";

@@ -11,5 +11,5 @@ export function sayPicture(state) {
   const limit = listed(state.limit.map((arc) => arc.short), state.limit_count);
   const step = state.at ? ` Last step: ${state.steps[state.at].text}, ${state.steps[state.at].by}.` : "";
   at("picture-said").textContent = `${state.value}${units()} flow from ${state.source} to ${state.sink}, over ${state.arcs} ${noun()}s. `
-    + `The limit: ${limit}.${step}`;
+    + `The bottleneck: ${limit}.${step}`;
 }

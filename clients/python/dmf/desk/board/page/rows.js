@@ -1,13 +1,14 @@
 /**
  * The rows of the table of all arcs.
- * @typedef {import("./state.js").Arc & { changed: boolean }} Arc
+ * @typedef {import("./state.js").Arc & { change: string }} Arc
  */
 import { make } from "./elements.js";
 
 /** The height of a row in pixels, as in the style sheet. */
 export const HEIGHT = 32;
 export const COLUMNS = [
-  ["name", ""], ["from", "From"], ["to", "To"], ["flow", "flows"], ["capacity", "fits"], ["use", "use"], ["lost", "if lost"]];
+  ["name", ""], ["from", "From"], ["to", "To"], ["flow", "flows"], ["capacity", "fits"], ["use", "use"], ["lost", "if lost"],
+  ["change", "change"]];
 
 /**
  * @param {string} column
@@ -44,8 +45,8 @@ function use(arc) {
   return arc.closed || !Number.isFinite(used) ? "" : `${Math.round(100 * used)} %`;
 }
 
-/** The position of the losses among the columns. */
-const LOST = COLUMNS.findIndex(([column]) => column === "lost");
+/** The positions of two of the columns. */
+const USE = COLUMNS.findIndex(([column]) => column === "use"), LOST = COLUMNS.findIndex(([column]) => column === "lost");
 
 /**
  * Returns what is lost without an arc, or an empty text if that is nothing. Until it is known, the old text stays, marked as old.
@@ -64,11 +65,13 @@ function lost(arc, cell) {
  * @param {Arc} arc
  */
 export function fill(made, arc) {
-  const marks = [arc.closed && "closed", arc.full && "full", arc.limit && "limit", arc.changed && !arc.closed && "changed"];
+  const mark = arc.limit ? "bottleneck" : arc.full ? "full" : "";
+  made.classList.toggle("cut", arc.limit);
   const [tick, ...cells] = made.cells, flow = arc.closed ? "" : arc.way === "<" ? `← ${arc.flow}` : arc.flow;
-  const amounts = [flow, arc.capacity, use(arc), lost(arc, cells[LOST])];
-  const texts = [arc.name || arc.label, arc.tail, arc.head, ...amounts, marks.filter(Boolean).join(", ")];
+  const amounts = [flow, arc.capacity, use(arc), lost(arc, cells[LOST]), arc.change];
+  const texts = [arc.name || arc.label, arc.tail, arc.head, ...amounts, mark];
   for (const [column, cell] of cells.entries()) if (cell.textContent !== texts[column]) cell.textContent = texts[column];
+  cells[USE].style.setProperty("--parts", String(parseInt(use(arc), 10) || 0));
   cells[0].title = arc.label;
   tick.firstElementChild?.setAttribute("aria-label", `choose ${arc.label}`);
 }

@@ -159,7 +159,7 @@ const show = (told) => busily(async () => {
   // Hidden until now, since laying it out without its content would be wasted work.
   at("main").hidden = false;
   const shown = Promise.all(watchers.map((watcher) => watcher(told, before)));
-  if (told.flows_follow) news("What can be sent and the limit are known; the flows follow.");
+  if (told.flows_follow) news("What can be sent and the bottleneck are known; the flows follow.");
   await (told.flows_follow ? patiently(shown) : shown);
   if (told.flows_follow) news("The flows are there.");
 });

@@ -1,20 +1,13 @@
 /**
- * The headline, with what can be sent, and the bottleneck.
+ * The headline, with what can be sent.
  * @typedef {import("./state.js").State} State
  */
-import { pick } from "./choice.js";
-import { at, fill, make, numberCell, onClick, replaceAlike } from "./elements.js";
-import { act, caption, noun, present, units } from "./state.js";
-import { fileName, grouped, listed, upper } from "./words.js";
+import { at, make, onClick, replaceAlike } from "./elements.js";
+import { act, noun, present, units } from "./state.js";
+import { fileName, grouped, upper } from "./words.js";
 
 /** @param {State} state */
 export function showSummary(state) {
-  tell(state);
-  showLimit(state);
-}
-
-/** @param {State} state */
-function tell(state) {
   const named = state.scenario ? `, ${state.scenario}` : "";
   document.title = `${state.value} ${fileName(state.title)}${named}`;
   at("title").title = state.title;
@@ -43,13 +36,4 @@ function tell(state) {
 
 export function beginKeeping() {
   onClick("keep", () => act({ what: "keep" }, `the steps are kept in ${present().offer}`));
-}
-
-/** @param {State} state */
-function showLimit(state) {
-  const rest = state.limit_count - state.limit.length;
-  at("limit-note").textContent = `Whatever way is taken, it leads over one of these, and together they carry ${state.value}${units()}. `
-    + `Before the limit: ${listed(state.side, state.side_count)}.`
-    + (rest ? ` The first ${state.limit.length} of ${grouped(state.limit_count)}:` : "");
-  fill("limit-table", caption(), [upper(noun()), "carries"], state.limit.map((arc) => [pick(arc), numberCell(arc.capacity)]));
 }

@@ -214,6 +214,6 @@ export function showFiltered() {
 /** Says what can be typed into the filter, and the unit of amounts. */
 export const showForms = () => {
   at("listed-head").textContent = `All ${noun()}s`;
-  at("filter-forms").textContent = "A part of a name, or use > 80, changed, full, limit, closed, capacity < 60, flow >= 10, from ~ Mill;"
-    + ` with “and” between two, and “not” before one. Amounts are in${units() || " the table’s unit"}, and use in %.`;
+  at("filter-forms").textContent = "A part of a name, or use > 80, lost > 10, fits < 60, flows > before, from ~ Mill, full, bottleneck,"
+    + ` closed, added, changed; with “and” between two, and “not” before one. Amounts are in${units() || " the table’s unit"}, use in %.`;
 };

@@ -1,0 +1,41 @@
+/**
+ * What the page shows, in one place. Each part of it has one value, and whatever depends on that is told when it changes.
+ * @typedef {import("./state.js").State} State
+ * @typedef {{ number: number, short: string, doubled: string, won: string, gain: string }} Second
+ * @typedef {{ turn: number, found: Map<number, Second>, isOver: boolean }} Seconds
+ * @typedef {{ seconds: Seconds | null }} Store
+ *   `seconds`: what a second one beside each arc of the bottleneck brings, once that is asked for
+ */
+
+/** @type {Store} */
+const held = { seconds: null };
+/** @type {Map<string, ((value: any, before: any) => unknown)[]>} */
+const watchers = new Map();
+
+/**
+ * What the page shows now. Only `put` changes it.
+ * @type {Readonly<Store>}
+ */
+export const now = held;
+
+/**
+ * Calls `watcher` with each new value of a part, and the one before it.
+ * @template {keyof Store} Name
+ * @param {Name} name
+ * @param {(value: Store[Name], before: Store[Name]) => unknown} watcher
+ */
+export function watch(name, watcher) {
+  watchers.set(name, [...watchers.get(name) ?? [], watcher]);
+}
+
+/**
+ * Sets the value of a part, and waits until all that depends on it is shown.
+ * @template {keyof Store} Name
+ * @param {Name} name
+ * @param {Store[Name]} value
+ */
+export function put(name, value) {
+  const before = held[name];
+  held[name] = value;
+  return Promise.all((watchers.get(name) ?? []).map((watcher) => watcher(value, before)));
+}

@@ -1,0 +1,128 @@
+"""A planner's way from her own table of 300 pipes to a printed report, by what the pages call their
+buttons: every click is counted, with those in the dialogs of the browser. What is wanted comes from
+networkx."""
+
+from __future__ import annotations
+
+import base64
+import random
+import re
+from pathlib import Path
+from typing import Any
+
+import networkx
+import pytest
+from board_pages import Page
+from board_running import board
+from test_board_access import as_before, show
+from test_board_import_page import ImportPage
+
+SIDE, NOW, LATER = 12, "Q now [l/s]", "Q later [l/s]"
+# The most clicks, with the three of each dialog for a file and the one in that for printing.
+MOST_CLICKS = 12
+Row = tuple[str, str, str, int]
+
+
+def town() -> list[Row]:
+    """300 pipes of a town: a grid with mains that lead into it and ways out of it."""
+    chance = random.Random(5)
+    places = [(row, column) for row in range(SIDE) for column in range(SIDE)]
+    ends = [((row, column), (row, column + 1)) for row, column in places if column + 1 < SIDE]
+    ends += [((row, column), (row + 1, column)) for row, column in places if row + 1 < SIDE]
+    named = [(f"J{a}-{b}", f"J{c}-{d}") for (a, b), (c, d) in ends]
+    rows = [(tail, head, chance.choice([8, 12, 20, 30])) for tail, head in named]
+    rows += [("Works", f"J{row}-0", 60) for row in range(SIDE)]
+    rows += [(f"J{row}-{SIDE - 1}", "Sea", 25) for row in range(SIDE)]
+    rows += [(f"J{SIDE - 1}-{column}", "Sea", 25) for column in range(SIDE)]
+    return [(f"P-{place:03d}", *row) for place, row in enumerate(rows, 1)]
+
+
+def greatest(rows: list[Row]) -> int:
+    graph = networkx.DiGraph()
+    for _, tail, head, capacity in rows:
+        before = graph.get_edge_data(tail, head, {"capacity": 0})["capacity"]
+        graph.add_edge(tail, head, capacity=before + capacity)
+    return int(networkx.maximum_flow_value(graph, "Works", "Sea"))
+
+
+class Walk(Page):
+    """A page on which every click is counted."""
+
+    clicks = 0
+
+    def press(self, word: str) -> None:
+        """Presses a button, or a tab, of this name that can be seen. No tab is opened for it."""
+        self.clicks += 1
+        self.wait(lambda: [it.click() for it in self.seen(word)[:1]])
+        self.settle()
+
+    def seen(self, word: str) -> list[Any]:
+        """The buttons and tabs whose names begin with this."""
+        found = self.driver.find_elements("css selector", "button, [role=tab]")
+        return [it for it in found if it.is_displayed() and it.accessible_name.startswith(word)]
+
+
+def judge_second(page: Walk, rows: list[Row]) -> None:
+    """What a second one beside each pipe of the bottleneck brings, and the best of them laid."""
+    value = greatest(rows)
+    page.press("Bottleneck: ")
+    page.press("What would a second one bring?")
+    page.wait(lambda: page.text("#seconds-told").startswith("Best to have a second of: "))
+    gains = {row: greatest([*rows, row]) - value for row in rows}
+    best = [row[0] for row in rows if gains[row] == max(gains.values())]
+    said = re.fullmatch(
+        "Best to have a second of: (.*), ([0-9]+) l/s more.", page.text("#seconds-told")
+    )
+    assert said and said[1].split(" or ") == best and int(said[2]) == max(gains.values())
+    page.press(best[0])
+    page.press("Put a second one beside it")
+    assert page.value() == value + max(gains.values())
+
+
+def judge_print(driver: Any, value: int) -> None:
+    """The report has the value, and is printed on at most two sheets of A4."""
+    assert f"{value} l/s" in driver.find_element("tag name", "body").text
+    pdf = base64.b64decode(
+        driver.execute_cdp_cmd("Page.printToPDF", {"preferCSSPageSize": True})["data"]
+    )
+    boxes = re.findall(rb"/MediaBox \[0 0 ([0-9.]+) ([0-9.]+)\]", pdf)
+    assert {(round(float(wide)), round(float(high))) for wide, high in boxes} == {(595, 842)}
+    assert pdf.count(b"/Type /Page\n") <= 2
+
+
+@pytest.mark.seconds(30)
+def test_from_the_file_to_a_printed_report(driver: Any, tmp_path: Path) -> None:
+    rows = town()
+    lines = [f"{name},{tail},{head},{now},{now + 5}\n" for name, tail, head, now in rows]
+    table = tmp_path / "town.csv"
+    table.write_text(f"Pipe,Start node,End node,{NOW},{LATER}\n" + "".join(lines))
+    folder = tmp_path / "board"
+    folder.mkdir()
+    with board("--import", cwd=folder) as it:
+        show(driver, 1280, "light")
+        first = ImportPage(driver, it.address)
+        first.named("file", "Choose a file").send_keys(str(table))
+        first.says("Which column is the capacity?")
+        offered = driver.find_elements("css selector", "#choices button")
+        next(it for it in offered if it.text.startswith(NOW)).click()
+        first.wait(lambda: first.named("button", "Open").is_enabled())
+        first.press("Open")
+        page = Walk(driver, "")
+        # The file, its name and Open in the dialog; the column; and Open.
+        page.clicks = 5
+        assert page.value() == greatest(rows)
+        judge_second(page, rows)
+        value = page.value()
+        page.press("Steps")
+        link = page.find("#take-report")
+        assert link.accessible_name == "Report to hand on (HTML)"
+        page.clicks += 1
+        status, _, report = it.ask(it.root + link.get_attribute("href").rpartition("/")[2])
+        assert status == 200
+        (tmp_path / "report.html").write_bytes(report)
+        driver.get(f"file://{tmp_path}/report.html")
+        judge_print(driver, value)
+        # Print, in the dialog that Ctrl-P opens.
+        page.clicks += 1
+        assert page.clicks <= MOST_CLICKS
+        as_before(driver)
