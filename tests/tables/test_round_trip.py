@@ -20,6 +20,7 @@ from desk_shared import run
 from dmf.desk.export import table
 from dmf.desk.workspace import Desk
 from dmf.tables.loader import LoadedProblem, read_subject
+from dmf.tables.problem_networks import network_of_subject, whole_network
 from dmf.tools.options import add_words, words_of
 from made_tables import Row, made
 from oracle import program
@@ -56,6 +57,38 @@ def value_of(subject: LoadedProblem) -> Fraction:
     answer = program.run([b"solve"], subject.text).written
     assert isinstance(answer, bytes)
     return Fraction(subject.measure.quantity(int(answer.split()[1])))
+
+
+def network_told(network: Any) -> list[Any]:
+    """All that a network says of itself, and what its session has."""
+    arcs = [(arc.given_key, arc.tail, arc.head, arc.capacity) for arc in network.arcs]
+    kept = network._kept
+    return [network.nodes, kept.source, kept.sink, arcs, kept.described, network._session.problem()]
+
+
+@pytest.mark.parametrize("words", [[], ["--both-ways"], ["--scale", "1000"]])
+@pytest.mark.parametrize("seed", range(12))
+def test_no_text_is_written(tmp_path: Path, seed: int, words: list[str]) -> None:
+    """The network that a desk makes of a table is that of its problem's text, and so are the names;
+    and the text is the same whatever was changed before it is written."""
+    path, sign = tmp_path / "t.csv", ",."[seed % 2]
+    path.write_text(made(seed).text(sign))
+    subject, other = (subject_of(path, "--decimal", sign, *words) for _ in range(2))
+    with network_of_subject(subject) as now, whole_network(other.text) as wanted:
+        assert network_told(now) == network_told(wanted)
+    desks = [Desk(it, with_solve=True) for it in (subject, LoadedProblem("t", other.text))]
+    names = [desk.network.names for desk in desks]
+    for told_of in "node", "given_node":
+        now_told, wanted_told = (
+            [getattr(it, told_of)(node) for node in range(1, it.node_count + 1)] for it in names
+        )
+        assert now_told == wanted_told
+    numbers = range(1, len(desks[0].network.lines) + 1)
+    assert [*map(names[0].arc_names, numbers)] == [*map(names[1].arc_names, numbers)]
+    desks[0].close(*desks[0].network.pictured())
+    assert desks[0].value == 0 and subject.text == other.text
+    for desk in desks:
+        desk.end()
 
 
 @pytest.mark.parametrize("seed", range(40))

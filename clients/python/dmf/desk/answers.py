@@ -6,14 +6,15 @@ from __future__ import annotations
 import contextlib
 import threading
 from array import array
-from collections.abc import Sequence
+from collections.abc import Iterable, Sequence
 from dataclasses import dataclass, field
 from typing import NamedTuple
 
 from ..errors import Error, FlowIsNotGreatest
-from ..session.base import Part, Program, Solved, ValuesWithout
+from ..session.base import Part, Program, Solved, ValuesWithout, problem_pieces
 from ..session.fresh import CUT, solved
 from ..session.runners import program_of
+from ..tables.loader import LoadedProblem
 from .live_network import LiveNetwork
 
 # The least number of arcs of a network whose flows may come later than its value.
@@ -24,22 +25,25 @@ class FirstAnswer:
     """A run of the program that finds the greatest value of a problem, and the source side of its
     limit, while the caller does other things."""
 
-    def __init__(self, text: bytes, program: Program) -> None:
-        self._text = text
+    def __init__(self, problem: Iterable[bytes], program: Program) -> None:
+        self._problem = problem
         self._program = program
         self._found: Solved | None = None
         self._thread = threading.Thread(target=self._find, daemon=True)
         self._thread.start()
 
     @classmethod
-    def of(cls, text: bytes, program: Program) -> FirstAnswer | None:
-        """Return one for the text of a large problem, or None if it is small."""
-        return cls(text, program) if text.count(b"\na ") >= LARGE else None
+    def of(cls, subject: LoadedProblem, program: Program) -> FirstAnswer | None:
+        """Return one for a large problem, or None if it is small."""
+        if subject.net:
+            problem = subject.net.columns
+            return cls(problem_pieces(problem), program) if len(problem.tails) >= LARGE else None
+        return cls([subject.text], program) if subject.text.count(b"\na ") >= LARGE else None
 
     def _find(self) -> None:
         # If this fails, the caller that needs the answer solves, and reports what is wrong.
         with contextlib.suppress(Error, OSError):
-            self._found = solved([self._text], CUT, program_of(self._program))
+            self._found = solved(self._problem, CUT, program_of(self._program))
 
     def wait(self) -> Solved | None:
         """Return the answer, or None if there is none."""

@@ -12,7 +12,7 @@ from ..errors import Error, Refused
 from ..quantity import Quantity, moved
 from ..session.base import Part, ProblemColumns, Program, ValuesWithout
 from ..tables.loader import LoadedProblem
-from ..tables.problem_networks import whole_network
+from ..tables.problem_networks import network_of_subject
 from .network_arcs import NetworkArcs
 from .steps import Add, Change, Close, Follow, MakePlace, Marks, Node, Reopen, Shut, Solve, Step
 
@@ -29,7 +29,7 @@ class LiveNetwork(NetworkArcs):
     """
 
     def __init__(self, subject: LoadedProblem, program: Program = None) -> None:
-        self.network = whole_network(subject.text, program=program)
+        self.network = network_of_subject(subject, program)
         super().__init__(subject, self.network._kept, self.network.nodes)
         self.network._kept.watcher = self._follow
         # Whether changes are being made. An error that is not a refusal leaves this True, and the

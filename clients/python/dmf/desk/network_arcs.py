@@ -54,7 +54,7 @@ class NetworkArcs:
         self.lines = ArcLines(state.columns, state.capacities, self.measure)
         tied = self.folding.partners(state.columns.tails, state.columns.heads)
         self.pipes = Pipes(self.lines, tied)
-        labels = _node_names(subject.text, nodes)
+        labels = subject.net.node_names if subject.net else _node_names(subject.text, nodes)
         self.names = Directory(labels, self.lines, self.pipes, nodes, self.folding)
         # The nodes of the problem's source and sink, which may join several places.
         self.source, self.sink = state.number(state.source), state.number(state.sink)
@@ -438,7 +438,7 @@ class NetworkArcs:
 def _node_names(text: bytes, nodes: Sequence[Node]) -> Sequence[str]:
     """Return the name of each node: the comment's, or else its number. Nodes that go by their
     numbers have a name that several have, or none."""
-    if all(isinstance(node, str) for node in nodes):
+    if {*map(type, nodes)} <= {str}:
         return [*map(str, nodes)]
     named = names_in(naming_pieces(text, NODE), NODE)
     return [named.get(number, str(number)) for number in range(1, len(nodes) + 1)]

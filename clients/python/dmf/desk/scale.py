@@ -34,7 +34,8 @@ def finer(subject: LoadedProblem, quantity: Quantity) -> LoadedProblem:
     following = iter(capacities)
     return replace(
         subject,
-        text=head + _ARC.sub(lambda found: found[1] + b"%d" % next(following), subject.text),
+        given=head + _ARC.sub(lambda found: found[1] + b"%d" % next(following), subject.text),
+        net=None,
     )
 
 

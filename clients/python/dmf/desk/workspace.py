@@ -60,7 +60,7 @@ class Desk:
         may_follow: bool = False,
         program: Program = None,
     ) -> None:
-        first = FirstAnswer.of(subject.text, program) if with_solve and may_follow else None
+        first = FirstAnswer.of(subject, program) if with_solve and may_follow else None
         self._running = RunningNetworks(program)
         network = self._running.begin(subject)
         self.with_solve = with_solve

@@ -17,13 +17,21 @@ from ..quantity import Measure
 from ..text.lexical import display, fields, lines
 from ..text.problem_text import problem_in
 from ..text.spelling import MOST_TOLD, quoted_name
-from ..text.table_comments import TableComments, described
+from ..text.table_comments import TableComments, described, table_comments
 from .arcs_and_places import Term, read_arcs, read_places, terms_of
 from .column_question import ColumnQuestion
 from .file_kinds import FileKind, has_table, kind_of, refuse_settings, sheets_of
 from .headings import ARCS, PLACE_COLUMNS, STATES, Form, spoken
 from .other_columns import Extra, extra_in, extra_of, left_out
-from .problem_builder import KINDS, NetworkTables, ends_alone, net_of, problem_text, term_of
+from .problem_builder import (
+    KINDS,
+    BuiltProblem,
+    NetworkTables,
+    ends_alone,
+    net_of,
+    problem_text,
+    term_of,
+)
 from .readers import Table
 from .roster_arcs import roster_tables
 from .row_states import lead
@@ -331,24 +339,30 @@ MARKS = b",;|"
 
 @dataclass(frozen=True)
 class LoadedProblem:
-    """A problem with comments, as `dmf-problem` writes it. `noun` is the table's word for an arc,
-    if its titles have one. `notes` say what looks like a mistake, and what was assumed. `raw_names`
-    says that names stand unprotected in a table. `plan` has the tables that the problem was made
-    from, if it was made here, and `found` the options that say what was found then: titles of
-    columns, the source, the sink."""
+    """A problem with comments, as `dmf-problem` writes it. `given` is its text, which is empty if
+    it was made here: then `net` has the problem, and `plan` the tables that it was made from.
+    `noun` is the table's word for an arc, if its titles have one. `notes` say what looks like a
+    mistake, and what was assumed. `raw_names` says that names stand unprotected in a table. `found`
+    has the options that say what was found: titles of columns, the source, the sink."""
 
     path: str
-    text: bytes
+    given: bytes
     noun: str = ""
     notes: tuple[str, ...] = ()
     raw_names: bool = False
     plan: Optional[NetworkTables] = field(default=None, repr=False, compare=False)
     found: Mapping[str, Any] = field(default_factory=dict)
+    net: Optional[BuiltProblem] = field(default=None, repr=False, compare=False)
+
+    @cached_property
+    def text(self) -> bytes:
+        """Return the text of the problem. That of a large table takes a second to write."""
+        return problem_text(self.net).encode() if self.net else self.given
 
     @cached_property
     def described(self) -> TableComments:
         """Return what the comments say of the problem's table."""
-        return described(self.text)
+        return described(table_comments(self.net.described).encode() if self.net else self.given)
 
     @property
     def measure(self) -> Measure:
@@ -426,9 +440,7 @@ def subject_of(
         and all(texts.count(title) == 1 for title in titles.values())
     ):
         found.update(titles)
-    return LoadedProblem(
-        path, problem_text(net).encode(), noun, told, wanted.reading.raw_names, plan, found
-    )
+    return LoadedProblem(path, b"", noun, told, wanted.reading.raw_names, plan, found, net)
 
 
 def complete(plan: NetworkTables) -> list[str]:

@@ -15,7 +15,7 @@ their rows. After them stand inner nodes and arcs, which are not of the table:
 from __future__ import annotations
 
 from array import array
-from collections.abc import Iterable, Iterator, Sequence
+from collections.abc import Hashable, Iterable, Iterator, Sequence
 from dataclasses import dataclass, field
 from decimal import Decimal
 from itertools import chain, compress
@@ -24,7 +24,7 @@ from typing import Any, Optional
 
 from ..errors import TableFault
 from ..quantity import COMMA, LARGEST, Measure, QuantityFault, decimals, number_in, plain_text
-from ..session.base import numpy_for
+from ..session.base import ProblemColumns, numpy_for
 from ..text.both_ways import TwoWayArcs
 from ..text.lexical import AMOUNTS, NODES
 from ..text.spelling import cleaned, near, quoted_name
@@ -134,6 +134,16 @@ class BuiltProblem:
         if self.ways > 1:
             names = (name for name in self.labels for _ in range(self.ways))
         return {number: name for number, name in enumerate(names, 1) if name}
+
+    def arc_names(self) -> dict[int, Hashable]:
+        """Return the names of all arcs that have one, by number."""
+        return {**self.row_names(), **self.inner_names}
+
+    @property
+    def columns(self) -> ProblemColumns:
+        """The problem without names."""
+        ends = self.source, self.sink
+        return ProblemColumns(len(self.node_names), *ends, self.tails, self.heads, self.capacities)
 
 
 def too_much(measure: Measure) -> str:

@@ -8,6 +8,7 @@ from array import array
 from collections import Counter
 from collections.abc import Callable, Hashable
 from dataclasses import dataclass, replace
+from itertools import count
 from typing import TYPE_CHECKING, Any, cast
 
 from ..columns import Columns
@@ -22,6 +23,7 @@ from ..text.table_comments import TableComments, described, renumbered, tells_co
 from .table_answers import FoldedColumns, InnerNode, with_room
 
 if TYPE_CHECKING:
+    from .loader import LoadedProblem
     from .table_network import TableNetwork
 
 
@@ -56,6 +58,25 @@ def whole_network(text: bytes, *, program: Program = None) -> Network[int | str]
     in its whole numbers, whatever comments say of a table. The two nodes of a place with a limit
     have one name, so they keep their numbers. Raises what `read` raises."""
     return _whole(_opened(text, program, bound(None)))
+
+
+def network_of_subject(subject: LoadedProblem, program: Program = None) -> Network[int | str]:
+    """Return what `whole_network` returns for the text of a problem. If the problem was made of a
+    table, no text is written, and no name is read again. Raises what `read` raises."""
+    net = subject.net
+    if net is None:
+        return whole_network(subject.text, program=program)
+    ends = net.source, net.sink
+    # The network changes its capacities.
+    columns = net.tails, net.heads, net.capacities[:]
+    numbered: dict[int | str, int] = dict(zip(net.node_names, count(1)))
+    if len(numbered) < len(net.node_names):
+        numbered = _numbered(dict(enumerate(net.node_names, 1)), len(net.node_names))
+    kept = _kept(numbered, ends, columns, net.arc_names, bound(None))
+    kept.described = subject.described
+    network: Network[int | str] = Network._of(kept, chosen(program))
+    network._session.program = program
+    return network
 
 
 @dataclass
@@ -102,20 +123,35 @@ def _opened(text: bytes, program: Program, most: int) -> Opened:
 
 def _whole(problem: Opened) -> Network[int | str]:
     """Return the network of a problem. The names of its arcs are read when one is first needed."""
-    named = unique(problem.node_names())
-    nodes: dict[int | str, int] = {
-        named.get(number, number): number for number in range(1, problem.node_count + 1)
-    }
-    names = list(nodes)
-    source, sink = problem.ends
-    columns = Columns(nodes, problem.tails, problem.heads, problem.arc_names())
-    kept = NetworkState(
-        columns, problem.capacities, names[source - 1], names[sink - 1], problem.most
-    )
+    numbered = _numbered(problem.node_names(), problem.node_count)
+    columns = problem.tails, problem.heads, problem.capacities
+    kept = _kept(numbered, problem.ends, columns, problem.arc_names(), problem.most)
     kept.described = described(problem.text)
     network: Network[int | str] = Network.__new__(Network)
     network._begin(problem.session, kept)
     return network
+
+
+def _kept(
+    numbered: dict[int | str, int],
+    ends: tuple[int, int],
+    columns: tuple[array[int], array[int], array[int]],
+    arc_names: Callable[[], dict[int, Hashable]],
+    most: int,
+) -> NetworkState[int | str]:
+    """Return the state of a network of these numbered nodes, with its source and sink, the columns
+    of its arcs, and what makes their names."""
+    (tails, heads, capacities), names = columns, list(numbered)
+    source, sink = (names[end - 1] for end in ends)
+    made = Columns(numbered, tails, heads, arc_names)
+    return NetworkState(made, capacities, source, sink, most)
+
+
+def _numbered(named: dict[int, str], count: int) -> dict[int | str, int]:
+    """Return the nodes from 1 to `count` by their names or, where others have the same, by their
+    numbers."""
+    alone = unique(named)
+    return {alone.get(number, number): number for number in range(1, count + 1)}
 
 
 def unique(named: dict[int, str]) -> dict[int, str]:

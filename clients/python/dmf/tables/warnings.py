@@ -67,8 +67,9 @@ def _seen(name: str) -> str:
 
 def _look_alike(places: Collection[str]) -> Iterator[list[str]]:
     """Yield the names of places that look alike."""
-    is_plain = "".join(places).isascii()
-    seen = list(map(str.casefold if is_plain else _seen, places))
+    together = "\n".join(places)
+    is_plain = together.isascii()
+    seen = together.casefold().split("\n") if is_plain else list(map(_seen, places))
     if len(set(seen)) == len(seen):
         return
     counted = Counter(seen)
@@ -118,6 +119,14 @@ def _equal(column: array[int], other: array[int]) -> list[int]:
         np.equal(*(np.frombuffer(it, it.typecode) for it in (column, other)))
     ).tolist()
     return found
+
+
+def _first_place(column: array[int], number: int) -> int:
+    """Return the first place where a column has a number."""
+    np = numpy_for(len(column))
+    if np is None:
+        return column.index(number)
+    return int((np.frombuffer(column, column.typecode) == number).argmax())
 
 
 def _same_rows(plan: NetworkTables) -> Iterator[str]:
@@ -211,7 +220,7 @@ class _LonelyPlaces(Sequence[str]):
 
     def told(self, number: int) -> str:
         name = self.names[number - 1]
-        line = f" (line {self.table.lines[self.ends.index(number)]})"
+        line = f" (line {self.table.lines[_first_place(self.ends, number)]})"
         if (
             len(self.names) > MOST_PLACES
             or self.table.tails.count(number) + self.table.heads.count(number) > 1
