@@ -1,4 +1,5 @@
-"""The arcs between two nodes: found among all at first, and by an index later."""
+"""The arcs between two nodes, at a node and out of a set of nodes: found among all at first, by
+numpy if it is loaded and there are many, and by an index later."""
 
 from __future__ import annotations
 
@@ -6,24 +7,55 @@ from array import array
 from pathlib import Path
 from random import Random
 
+import numpy  # noqa: F401 (with it loaded, it is used)
 import pytest
 from client_shared import dmf
 from dmf.columns import MOST_MISSED, Columns
 
 
-@pytest.mark.parametrize("seed", range(40))
-def test_between(seed: int) -> None:
-    """Each call finds what the definition says, before and after the index is made."""
-    rng = Random(seed)
+# From how many arcs on numpy looks at them: from 1, or with none of these tests.
+MANY = pytest.mark.parametrize("many", [1, 1_000])
+
+
+def drawn(rng: Random) -> tuple[Columns[int], int, list[tuple[int, int]]]:
+    """Columns of twelve arcs, how many nodes they have, and the ends of each arc."""
     count = rng.randint(1, 5)
     tails, heads = (array("I", (rng.randint(1, count) for _ in range(12))) for _ in range(2))
     columns = Columns({node: node for node in range(1, count + 1)}, tails, heads, {})
+    return columns, count, list(zip(tails, heads))
+
+
+@MANY
+@pytest.mark.parametrize("seed", range(40))
+def test_between(seed: int, many: int, monkeypatch: pytest.MonkeyPatch) -> None:
+    """Each call finds what the definition says, before and after the index is made."""
+    monkeypatch.setattr("dmf.columns.MANY", many)
+    rng = Random(seed)
+    columns, count, ends = drawn(rng)
     for _ in range(MOST_MISSED + 5):
         tail, head = rng.randint(1, count), rng.randint(1, count)
-        ends = list(zip(tails, heads))
         found = [number for number, it in enumerate(ends, 1) if it == (tail, head)]
         assert columns.between(tail, head) == found
     assert "_by_ends" in vars(columns)
+
+
+@MANY
+@pytest.mark.parametrize("seed", range(40))
+def test_at_and_leaving(seed: int, many: int, monkeypatch: pytest.MonkeyPatch) -> None:
+    """The arcs at a node, and those that lead out of a set of nodes, likewise."""
+    monkeypatch.setattr("dmf.columns.MANY", many)
+    rng = Random(seed)
+    columns, count, ends = drawn(rng)
+    for _ in range(MOST_MISSED + 5):
+        node = rng.randint(1, count)
+        side = sorted(rng.sample(range(1, count + 1), rng.randint(0, count)))
+        at = [number for number, it in enumerate(ends, 1) if node in it]
+        out = [
+            number
+            for number, (tail, head) in enumerate(ends, 1)
+            if tail in side and head not in side
+        ]
+        assert columns.at(node) == at and columns.leaving(side) == out
 
 
 def test_the_first_makes_no_index(tmp_path: Path) -> None:

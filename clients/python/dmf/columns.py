@@ -12,6 +12,7 @@ from operator import gt
 from typing import TYPE_CHECKING, Any, Generic, TypeVar
 
 from .errors import NoSuchArc, shown_value
+from .session.base import loaded_numpy
 from .text.lexical import NO_NODE, NODES, NUMBERS
 
 if TYPE_CHECKING:
@@ -88,8 +89,9 @@ class WholeNodes(Mapping[Any, int]):
 
 
 Node = TypeVar("Node", bound=Hashable)
-# The number of searches that look at all arcs before an index is made.
-MOST_MISSED = 20
+# The number of searches that look at all arcs before an index is made, and the number of arcs from
+# which numpy, if it is loaded, looks at them faster.
+MOST_MISSED, MANY = 20, 1_000
 
 
 class Index:
@@ -184,9 +186,12 @@ class Columns(Generic[Node]):
         self._missed_ends += 1
         if self._missed_ends > MOST_MISSED:
             return self._by_ends.find(tail * (len(self.numbers) + 1) + head)
-        heads = self.heads
+        if arrays := self._arrays():
+            np, tails, heads = arrays
+            found: list[int] = (np.flatnonzero((tails == tail) & (heads == head)) + 1).tolist()
+            return found
         leaving = compress(count(1), map(tail.__eq__, self.tails))
-        return [number for number in leaving if heads[number - 1] == head]
+        return [number for number in leaving if self.heads[number - 1] == head]
 
     def number(self, node: Node) -> int:
         """Return the number of a node. Raises `NoSuchNode`, also for a value that cannot be
@@ -234,6 +239,13 @@ class Columns(Generic[Node]):
         which the arcs of each node begin."""
         return _grouped(self.tails, len(self.numbers)), _grouped(self.heads, len(self.numbers))
 
+    def _arrays(self) -> tuple[Any, Any, Any] | None:
+        """Return numpy, the tails and the heads, if that is worthwhile."""
+        np = loaded_numpy() if len(self) >= MANY else None
+        if np is None:
+            return None
+        return np, *(np.frombuffer(it, it.typecode) for it in (self.tails, self.heads))
+
     def _is_indexed(self) -> bool:
         """Return True once the arcs at each node are to be found by an index: after `MOST_MISSED`
         searches without one."""
@@ -250,6 +262,10 @@ class Columns(Generic[Node]):
                     for number in order[begins[node] : begins[node + 1]]
                 }
             )
+        if arrays := self._arrays():
+            np, tails, heads = arrays
+            found: list[int] = (np.flatnonzero((tails == node) | (heads == node)) + 1).tolist()
+            return found
         here = node.__eq__
         return sorted(
             {
@@ -275,6 +291,11 @@ class Columns(Generic[Node]):
             others = compress(range(1, len(self.numbers) + 1), (not one for one in inside[1:]))
             arcs = (number for node in others for number in order[begins[node] : begins[node + 1]])
             return sorted(number for number in arcs if inside[self.tails[number - 1]])
+        if arrays := self._arrays():
+            np, tails, heads = arrays
+            within = np.frombuffer(inside, np.uint8)
+            found: list[int] = (np.flatnonzero(within[tails] > within[heads]) + 1).tolist()
+            return found
         is_in = inside.__getitem__
         return list(compress(count(1), map(gt, map(is_in, self.tails), map(is_in, self.heads))))
 
