@@ -3,6 +3,7 @@ or nothing is read, and the question names its columns. None is read in another 
 
 from __future__ import annotations
 
+import argparse
 from collections.abc import Mapping
 from decimal import Decimal
 from pathlib import Path
@@ -12,8 +13,10 @@ import pytest
 from client_shared import dmf
 from desk_shared import ROOT, run
 from dmf.tables.csv_file import csv_sheet
-from dmf.tables.loader import TableOptions, subject_of
+from dmf.tables.loader import Stages, TableOptions, read_subject, subject_of
 from dmf.tables.table_file import ReadOptions
+from dmf.tools.desk_options import RowCount
+from dmf.tools.options import add_words, words_of
 from office_shared import at_a_terminal, ends_of, greatest
 from office_sheets import ASKED, READ, Arcs, Asked, Read
 from packages import load
@@ -330,3 +333,19 @@ def test_a_terminal_is_told(tmp_path: Path) -> None:
     assert status == 0 and f"dmf-plan: reading {path} (5 MB) .." in told, told
     assert told.index("(5 MB) ..") < told.index("dmf-plan: solving ..") < told.index("value 800000")
     assert " .." not in run("dmf-plan", str(path), typed="solve\n").stderr
+
+
+def test_a_terminal_counts_lines(
+    tmp_path: Path, monkeypatch: pytest.MonkeyPatch, capfd: pytest.CaptureFixture[str]
+) -> None:
+    """How far a table is read is told in one line, which is taken away at the end."""
+    monkeypatch.setattr("dmf.tools.desk_options.PAUSE", 0)
+    path = tmp_path / "large.csv"
+    path.write_text("from,to,capacity\n" + "".join(f"A,B{at},5\n" for at in range(20_000)))
+    parser = argparse.ArgumentParser()
+    add_words(parser)
+    words = words_of(parser, [str(path), "A", "B7"])
+    read_subject(words, stages=Stages(watch=RowCount()))
+    _, *shown = capfd.readouterr().err.split("\r\x1b[K")
+    counts = [int(it.removesuffix(" lines read").replace(",", "")) for it in shown if it]
+    assert counts == sorted(counts) and counts[-1] == 20_001 and shown[-1] == ""

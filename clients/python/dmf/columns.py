@@ -186,7 +186,7 @@ class Columns(Generic[Node]):
         self._missed_ends += 1
         if self._missed_ends > MOST_MISSED:
             return self._by_ends.find(tail * (len(self.numbers) + 1) + head)
-        if arrays := self._arrays():
+        if len(self.tails) >= MANY and (arrays := self._arrays()):
             np, tails, heads = arrays
             found: list[int] = (np.flatnonzero((tails == tail) & (heads == head)) + 1).tolist()
             return found
@@ -240,11 +240,12 @@ class Columns(Generic[Node]):
         return _grouped(self.tails, len(self.numbers)), _grouped(self.heads, len(self.numbers))
 
     def _arrays(self) -> tuple[Any, Any, Any] | None:
-        """Return numpy, the tails and the heads, if that is worthwhile."""
-        np = loaded_numpy() if len(self) >= MANY else None
+        """Return numpy, the tails and the heads, if it is loaded."""
+        np = loaded_numpy()
         if np is None:
             return None
-        return np, *(np.frombuffer(it, it.typecode) for it in (self.tails, self.heads))
+        tails, heads = (np.frombuffer(it, it.typecode) for it in (self.tails, self.heads))
+        return np, tails, heads
 
     def _is_indexed(self) -> bool:
         """Return True once the arcs at each node are to be found by an index: after `MOST_MISSED`
@@ -262,7 +263,7 @@ class Columns(Generic[Node]):
                     for number in order[begins[node] : begins[node + 1]]
                 }
             )
-        if arrays := self._arrays():
+        if len(self.tails) >= MANY and (arrays := self._arrays()):
             np, tails, heads = arrays
             found: list[int] = (np.flatnonzero((tails == node) | (heads == node)) + 1).tolist()
             return found
@@ -291,7 +292,7 @@ class Columns(Generic[Node]):
             others = compress(range(1, len(self.numbers) + 1), (not one for one in inside[1:]))
             arcs = (number for node in others for number in order[begins[node] : begins[node + 1]])
             return sorted(number for number in arcs if inside[self.tails[number - 1]])
-        if arrays := self._arrays():
+        if len(self.tails) >= MANY and (arrays := self._arrays()):
             np, tails, heads = arrays
             within = np.frombuffer(inside, np.uint8)
             found: list[int] = (np.flatnonzero(within[tails] > within[heads]) + 1).tolist()

@@ -8,7 +8,7 @@ import os
 from collections.abc import Callable, Collection, Iterator, Mapping, Sequence
 from dataclasses import dataclass, field, replace
 from decimal import Decimal
-from functools import cached_property
+from functools import cached_property, partial
 from typing import Any, Optional, TypeVar
 
 from ..errors import OptionFault, TableFault
@@ -36,7 +36,7 @@ from .readers import Table
 from .roster_arcs import roster_tables
 from .row_states import lead
 from .setting_question import SettingQuestion
-from .sheet import Faults, Sheet, naming
+from .sheet import Faults, Rows, Sheet, naming
 from .table_file import ReadOptions, TableFile
 from .title_row import fits
 from .titles import DEMAND, LIMIT, NAME, PLACE, SUPPLY
@@ -89,13 +89,15 @@ def data_of(path: Optional[str]) -> bytes:
 @dataclass
 class Stages:
     """What was found in a file so far, also if its reading fails then: the kind of the file, its
-    sheets, the sheet of the arcs, their table, and the plan."""
+    sheets, the sheet of the arcs, their table, and the plan. `watch` is called with the line up to
+    which the arcs are read, again and again, and with 0 at the end."""
 
     kind: Optional[FileKind] = None
     sheets: Sequence[Sheet] = ()
     sheet: Optional[Sheet] = None
     table: Optional[Table] = None
     plan: Optional[NetworkTables] = None
+    watch: Optional[Callable[[int], None]] = None
 
 
 def load_tables(
@@ -111,8 +113,21 @@ def load_tables(
         refuse_settings(file)
         stages.sheets = sheets_of(file)
         stages.sheet, others = _arcs_sheet(file, stages.sheets, name)
+        if stages.watch:
+            read = partial(_watched, stages.sheet.read, stages.watch)
+            stages.sheet = replace(stages.sheet, read=read)
     stages.plan = plan_of_sheet(wanted, stages.sheet, others, stages)
     return stages.plan
+
+
+def _watched(read: Callable[[], Iterator[Rows]], watch: Callable[[int], None]) -> Iterator[Rows]:
+    """Yield rows, and tell a watcher how far that is."""
+    try:
+        for rows in read():
+            yield rows
+            watch(rows.lines[-1] if rows.lines else 0)
+    finally:
+        watch(0)
 
 
 def plan_of_sheet(

@@ -148,8 +148,16 @@ def _tell(name: str, error: BaseException) -> None:
 
 def warn(name: str, text: str) -> None:
     """Write a line to standard error."""
+    _write_error(display(f"{name}: {text}").encode(errors="replace") + b"\n")
+
+
+def show(text: str) -> None:
+    """Write a text over the last line of a terminal, which the next text replaces."""
+    _write_error(b"\r\x1b[K" + text.encode())
+
+
+def _write_error(line: bytes) -> None:
     if sys.stderr:
-        line = display(f"{name}: {text}").encode(errors="replace") + b"\n"
         try:
             sys.stderr.buffer.write(line)
             sys.stderr.flush()

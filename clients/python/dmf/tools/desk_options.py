@@ -6,18 +6,21 @@ import argparse
 import os
 import shlex
 import sys
+import time
 from typing import TYPE_CHECKING
 
 from ..desk.project.records import ENDING
 from ..errors import Refused
 from ..files import cannot
-from .command import Status, ToolFault, status_of, warn
+from .command import Status, ToolFault, show, status_of, warn
 
 if TYPE_CHECKING:
     from ..desk.workspace import Desk
 
 # From how many bytes on a terminal is told what is done with a file.
 LARGE = 4_000_000
+# How often it is told how far that is, in seconds.
+PAUSE = 0.5
 
 
 def add_project_words(parser: argparse.ArgumentParser) -> None:
@@ -42,7 +45,7 @@ def open_desk(words: argparse.Namespace, *, with_solve: bool, may_follow: bool =
     from ..desk.project.opener import beside, is_project, project_desk
     from ..desk.steps import DeskFault
     from ..desk.workspace import Desk, without_collection
-    from ..tables.loader import read_subject, says_table
+    from ..tables.loader import Stages, read_subject, says_table
 
     try:
         if is_project(words.path):
@@ -68,7 +71,8 @@ def open_desk(words: argparse.Namespace, *, with_solve: bool, may_follow: bool =
         if is_watched:
             _tell(f"reading {words.path} ({os.path.getsize(words.path) / 1e6:.0f} MB)")
         with without_collection():
-            subject = read_subject(words)
+            watch = RowCount() if is_watched else None
+            subject = read_subject(words, stages=Stages(watch=watch))
             if is_watched:
                 _tell("solving")
             desk = Desk(subject, with_solve=with_solve, may_follow=may_follow and not words.keep)
@@ -102,6 +106,24 @@ def settled_desk(words: argparse.Namespace, desk: Desk) -> Desk:
         desk.end()
     kept.tell(*notes)
     return kept
+
+
+class RowCount:
+    """A line at a terminal that says how many lines of a table are read. It is written at most once
+    in `PAUSE` seconds, over the one before."""
+
+    def __init__(self) -> None:
+        self._told = time.monotonic()
+        self._is_shown = False
+
+    def __call__(self, count: int) -> None:
+        """Take in how many are read, or 0 at the end, which takes the line away."""
+        if not count and self._is_shown:
+            show("")
+            self._is_shown = False
+        elif count and time.monotonic() - self._told >= PAUSE:
+            show(f"{count:,} lines read")
+            self._told, self._is_shown = time.monotonic(), True
 
 
 def _is_watched(path: str) -> bool:

@@ -164,7 +164,8 @@ class _FreeSpots:
         """Take and return the nearest spot found at which a place overlaps no other and, if there
         is one, none of these points."""
         found = ([it for it in _around(wanted, by) if self._is_free(it)] for by in FARTHER)
-        spots = next(filter(None, found), [])
+        no_spots: list[Spot] = []
+        spots = next(filter(None, found), no_spots)
         clear = (spot for spot in spots if not any(_covers(spot, it) for it in points))
         spot = next(clear, spots[0] if spots else wanted)
         self._take(spot)
