@@ -63,7 +63,7 @@ def test_spread(driver: Any, tmp_path: Path, larger: int) -> None:
         ]
         for across in range(int(left), int(right - SIDE), SIDE):
             for down in range(int(top), int(bottom - SIDE), SIDE):
-                part = [across, down, across + SIDE, down + SIDE]
+                part = [float(it) for it in (across, down, across + SIDE, down + SIDE)]
                 assert any(within(box, part) for box in boxes), part
         as_before(driver)
 

@@ -12,7 +12,6 @@ import pytest
 from client_shared import dmf
 from dmf.columns import MOST_MISSED, Columns
 
-
 # From how many arcs on numpy looks at them: from 1, or with none of these tests.
 MANY = pytest.mark.parametrize("many", [1, 1_000])
 

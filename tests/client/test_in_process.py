@@ -337,7 +337,8 @@ def test_one_call_needs_no_program(monkeypatch: pytest.MonkeyPatch, bound: int) 
     with counted(monkeypatch) as freed:
         assert dmf.value(PIPES, "lake", "sea") == 5
         assert dmf.minimum_cut(graph, "lake", "sea") == (5, ({"lake"}, {"mill", "town", "sea"}))
-        assert dmf.maximum_flow(graph, "lake", "sea") == (5, {**flows, "sea": {}})
+        flows["sea"] = {}
+        assert dmf.maximum_flow(graph, "lake", "sea") == (5, flows)
         assert len(freed) == 3
 
 

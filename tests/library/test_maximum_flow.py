@@ -140,7 +140,9 @@ def test_random_sessions(library: Library, batch: int, request: pytest.FixtureRe
             changed(session, random, wanted)
             count_now = session.number("arcs")
             columns = session.arc_range(1, count_now, [count_now] * 5)
-            arcs = tuple(Arc(*row[:3], row[4] == 1) for row in zip(*columns))
+            arcs = tuple(
+                Arc(tail, head, cap, mark == 1) for tail, head, cap, _, mark in zip(*columns)
+            )
             value, flows, side = found(session)
             now = replace(wanted, arcs=arcs, flows=flows)
             assert all(0 <= flow <= arc.cap for flow, arc in zip(flows, arcs))
