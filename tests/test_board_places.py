@@ -195,8 +195,8 @@ def test_fits_the_window(form: int) -> None:
             for other in listed[at + 1 :]:
                 assert abs(x - other[0]) > right + other[2] or abs(y - other[1]) > down + other[3]
         turned = 70 if form > 100 else 200
-        other = ovals(it.told(f"picture?near=&form={turned}")["svg"])
-        assert other != found
+        elsewhere = ovals(it.told(f"picture?near=&form={turned}")["svg"])
+        assert elsewhere != found
         it.do(what="close", arc=3)
         again = [ovals(it.told(f"picture?near=&form={one}")["svg"]) for one in (form, turned)]
         assert again == [found, other]

@@ -21,9 +21,19 @@ const drawn = [...document.querySelectorAll("#picture svg > g > *")].map((part) 
   for (const text of copy.querySelectorAll("text")) text.removeAttribute("transform");
   return copy.outerHTML.replaceAll(' class=""', "");
 });
+// The order of attributes means nothing.
+const sorted = (whole) => {
+  const copy = whole.cloneNode(true);
+  for (const part of [copy, ...copy.querySelectorAll("*")]) {
+    const found = [...part.attributes].map((it) => [it.name, it.value]).sort();
+    for (const [name] of found) part.removeAttribute(name);
+    for (const [name, value] of found) part.setAttribute(name, value);
+  }
+  return copy.outerHTML;
+};
 const parts = ["#grid tbody", "#way", "#limit-table", "#places"];
 return [drawn, ...parts.map((at) => [...document.querySelector(at).children]
-  .map((it) => it.outerHTML.replaceAll(' class=""', "").replaceAll(' class="current"', "")))];
+  .map((it) => sorted(it).replaceAll(' class=""', "").replaceAll(' class="current"', "")))];
 """
 PIECES = "[...document.querySelectorAll('#picture .node, #picture .arc, #grid tbody tr[id]')]"
 STEPS: list[dict[str, Any]] = [

@@ -33,7 +33,7 @@ return [document.querySelector("#value strong").textContent,
   texts("#way button").findIndex((it) => it.ariaCurrent),
   texts("#way button").length,
   texts("#grid tbody tr[id]").map((row) =>
-    ["name", "from", "to", "capacity", "marks"]
+    ["name", "from", "to", "capacity", "change"]
       .map((kind) => row.querySelector("td." + kind).textContent)),
   texts("#picture g.arc").map((arc) =>
     [Number(arc.id.slice(4)), [...arc.querySelectorAll("text")].at(-1).textContent])];

@@ -309,11 +309,11 @@ def test_page(tmp_path: Path) -> None:
     ]
     prompt = re.compile("[0-9]+, .*greatest> ")
     typed = [line.partition("> ")[2] for line in lines if prompt.match(line)]
-    assert len(typed) == 7 and typed[5:] == ["quit", "cost to 175"]
+    assert len(typed) == 8 and typed[6:] == ["quit", "cost to 175"]
     # A terminal solves at first, and a script is told so.
-    ran = run("dmf-plan", PIPES, typed="".join(f"{line}\n" for line in ["solve", *typed[:6]]))
+    ran = run("dmf-plan", PIPES, typed="".join(f"{line}\n" for line in ["solve", *typed[:7]]))
     session = lines[: lines.index("165, greatest> quit")]
-    told = [line for line in session if re.match("value |  |closing ", line)]
+    told = [line for line in session if re.match("value |  |closing |shutting ", line)]
     found = ran.stdout.replace(", 165 more", "", 1).splitlines()
     assert (found, ran.returncode) == (told, 0), f"the session of docs/PLAN.md: {ran}"
     costs = {3: 4, 9: 9, 14: 6}

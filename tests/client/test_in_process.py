@@ -347,7 +347,7 @@ def test_one_call_without_memory(monkeypatch: pytest.MonkeyPatch, bound: int) ->
         patched.setattr(loaded.load(library_file()), "maximum_flow", lambda *_: loaded.NO_MEMORY)
         with pytest.raises(dmf.NoMemory, match="^no memory$"):
             dmf.value(PIPES, "lake", "sea")
-        assert len(freed) == 1
+        wait_until_freed(freed)
 
 
 def short(monkeypatch: pytest.MonkeyPatch, word: str, arc: int) -> None:

@@ -33,6 +33,9 @@ LIST_BUDGET = ARCS
 # The most instructions for each arc of the network that a close among three nodes takes, where all
 # arcs lie side by side: a few looks at flags and rooms. To look for moves too takes twice as many.
 PARALLEL_BUDGET = 35
+# The most instructions for each arc of a solve along detours, of which a look at all nodes for each
+# takes four times as many.
+DETOURS_BUDGET = 2_500
 COLLECTED = re.compile(rb"Collected : ([0-9]+)")
 
 
@@ -311,6 +314,35 @@ def test_parallel_arcs(tmp_path: Path) -> None:
         instructions(tmp_path, text, f"solve\n{first}{then}") for then in ("", "".join(others))
     )
     assert 0 < (after - before) / len(others) / ARCS < PARALLEL_BUDGET
+
+
+def narrow(middle: int, detours: int) -> tuple[str, int]:
+    """A source, nodes that it reaches, a node that these lead to, and an arc from there to the
+    sink, beside which detours lead there, each longer than the last: the problem, and the number
+    of that arc."""
+    source, sink, gate = 1, 2, 3
+    arcs = []
+    for node in range(gate + 1, gate + 1 + middle):
+        arcs += [(source, node, 1), (node, gate, 1)]
+    arcs.append((gate, sink, middle))
+    closed, last = len(arcs), gate + middle
+    for length in range(2, 2 + detours):
+        inner = range(last + 1, last + length)
+        last += length - 1
+        arcs += [(*ends, 1) for ends in zip([gate, *inner], [*inner, sink], strict=True)]
+    return problem(last, source, sink, arcs), closed
+
+
+@pytest.mark.seconds(4)
+def test_detours(tmp_path: Path) -> None:
+    """A solve whose paths get longer one by one does not look at all nodes again for each: all
+    paths pass one node, behind many others."""
+    detours = 100
+    text, closed = narrow(ARCS // 4, detours)
+    before, after = (
+        instructions(tmp_path, text, f"solve\nclose {closed}\n{then}") for then in ("", "solve\n")
+    )
+    assert 0 < (after - before) / text.count("\na ") < DETOURS_BUDGET
 
 
 @pytest.mark.seconds(3)

@@ -5,6 +5,7 @@ from __future__ import annotations
 import argparse
 import gc
 from pathlib import Path
+from typing import Any
 
 import pytest
 from client_shared import dmf
@@ -26,9 +27,9 @@ def test_garbage_is_collected_again(tmp_path: Path, monkeypatch: pytest.MonkeyPa
     path.write_text("from,to,capacity\nA,B,5\n")
     seen = []
 
-    def watched(given: argparse.Namespace) -> object:
+    def watched(given: argparse.Namespace, **others: Any) -> object:
         seen.append(gc.isenabled())
-        return read_subject(given)
+        return read_subject(given, **others)
 
     monkeypatch.setattr("dmf.tables.loader.read_subject", watched)
     desk = desk_options.open_desk(words(path), with_solve=True)

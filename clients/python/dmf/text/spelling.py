@@ -8,7 +8,7 @@ import difflib
 import re
 import unicodedata
 from collections import Counter
-from collections.abc import Hashable, Iterable, Iterator, Mapping
+from collections.abc import Hashable, Iterable, Iterator, Mapping, Sequence
 from itertools import islice
 from typing import Any, NamedTuple
 
@@ -61,8 +61,13 @@ def quoted_name(text: str) -> str:
 
 def near(name: str, places: Iterable[str]) -> str:
     """Return the end of a message about an unknown name: the places with similar names, if any."""
-    found = nearest(name, places)
-    return f"; is it {' or '.join(map(quoted_name, found))}?" if found else ""
+    return proposal(nearest(name, places))
+
+
+def proposal(names: Sequence[str]) -> str:
+    """Return the end of a message that asks whether one of these names is meant, if there are
+    any."""
+    return f"; is it {' or '.join(map(quoted_name, names))}?" if names else ""
 
 
 def nearest(name: str, places: Iterable[str]) -> list[str]:

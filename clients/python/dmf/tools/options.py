@@ -12,7 +12,7 @@ from typing import Any, NoReturn
 from ..errors import OptionFault
 from ..tables.setting_question import SETTINGS, Setting
 from ..tables.titles import COLUMNS
-from ..text.spelling import cleaned, near
+from ..text.spelling import cleaned, nearest, proposal
 from .questions import asker
 
 
@@ -89,8 +89,9 @@ def parsed(
     from ..tables.loader import names_terminals
 
     if unknown:
-        options = [name for name in parser._option_string_actions if name.startswith("--")]
-        parser.error(f"unrecognized arguments: {' '.join(unknown)}{near(unknown[0], options)}")
+        options = [name[2:] for name in parser._option_string_actions if name.startswith("--")]
+        similar = [f"--{name}" for name in nearest(unknown[0].lstrip("-"), options)]
+        parser.error(f"unrecognized arguments: {' '.join(unknown)}{proposal(similar)}")
     # After -- no argument is an option, so the name of a place may begin with a dash there.
     places = [*words.places, *given[end + 1 :]]
     fixed = len(places) if fixed is None else fixed
