@@ -199,7 +199,7 @@ def test_fits_the_window(form: int) -> None:
         assert elsewhere != found
         it.do(what="close", arc=3)
         again = [ovals(it.told(f"picture?near=&form={one}")["svg"]) for one in (form, turned)]
-        assert again == [found, other]
+        assert again == [found, elsewhere]
 
 
 def test_one_form_if_kept(tmp_path: Path) -> None:
