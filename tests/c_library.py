@@ -143,6 +143,10 @@ class Library:
             raise Refused(status, 1_000 * line.value + fault.value)
         return CSession(self.calls, session)
 
+    def example(self) -> CSession:
+        """Return a session of the small example of the documents."""
+        return self.read((ROOT / "examples" / "a.max").read_bytes())
+
 
 class CSession:
     """A session of the library."""
@@ -219,6 +223,11 @@ class CSession:
         want(status)
         flows, side = (tuple(map(int, place))[:-1] for place in places)
         return value.value, flows, side
+
+    def state(self) -> tuple[object, ...]:
+        """Return all that a call that changes nothing must leave as it is."""
+        numbers = tuple(self.number(name) for name in ("value", "past", "future", "arcs"))
+        return numbers, self.array("flows"), self.array("capacities"), self.text("problem")
 
     def array(self, name: str) -> tuple[int, ...]:
         return self.filled(name, c_uint64, self.number("arcs"))

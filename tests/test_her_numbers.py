@@ -6,11 +6,9 @@ it means."""
 from __future__ import annotations
 
 import csv
-import io
 import json
 import random
 import re
-import subprocess
 import time
 from collections.abc import Iterator
 from decimal import Decimal
@@ -21,65 +19,27 @@ from xml.etree import ElementTree
 
 import pytest
 from board_running import Board, board
-from built import BUILT
-from desk_shared import SECONDS, run
+from desk_shared import run
 from dmf.desk.analysis import trials_of
 from dmf.desk.export import problem
 from dmf.desk.workspace import Desk
 from dmf.tables.loader import LoadedProblem
-from dmf.text.problem_text import read_problem
-from her_table import (
-    CLOSED,
-    DOUBLED,
-    GIVEN,
-    INNER,
-    LET_THROUGH,
-    LIMIT,
-    LIMITS,
-    PIPES,
-    REMARKS,
-    TABLE,
-    VALUE,
-    WORDS,
-    Pipe,
-    greatest,
-    number,
-    told,
-)
+from her_runs import judge_flows, judge_picture, judge_table, planned, put_problem, solved
+from her_table import CLOSED, DOUBLED, INNER, LIMIT, PIPES, VALUE, Pipe, greatest, number, told
 
 
 @pytest.fixture(scope="module")
 def folder(tmp_path_factory: pytest.TempPathFactory) -> Path:
-    """Where the table and its limits are, and the problem that dmf-plan makes of them."""
+    """A folder with the table, its limits and its problem."""
     made = tmp_path_factory.mktemp("numbers")
-    (made / "pipes.csv").write_text(TABLE)
-    (made / "limits.csv").write_text(LIMITS)
-    ran = planned(made, f"save {made}/pipes.max\n")
-    assert (ran.returncode, ran.stdout) == (0, f"written: {made}/pipes.max\n")
+    put_problem(made)
     return made
-
-
-def planned(folder: Path, typed: str, path: str = "") -> subprocess.CompletedProcess[str]:
-    words = [path] if path else [str(folder / "pipes.csv"), *WORDS, str(folder / "limits.csv")]
-    return run("dmf-plan", *words, typed=typed)
 
 
 @pytest.fixture(scope="module")
 def page(folder: Path) -> Iterator[Board]:
     with board(str(folder / "pipes.max")) as it:
         yield it
-
-
-def solved(folder: Path) -> str:
-    with open(folder / "pipes.max") as problem:
-        return subprocess.run(
-            [BUILT, "solve", "--cut"],
-            stdin=problem,
-            capture_output=True,
-            check=True,
-            timeout=SECONDS,
-            text=True,
-        ).stdout
 
 
 def test_by_hand() -> None:
@@ -223,91 +183,9 @@ def test_dmf_names(folder: Path) -> None:
     judge_table(table)
 
 
-def judge_flows(flows: dict[str, str]) -> None:
-    """Each place passes on what comes to it, within what it lets through, and the sea gets all."""
-    carried = {pipe.name: Fraction(flows[pipe.name]) for pipe in PIPES}
-    assert all(0 <= carried[pipe.name] <= pipe.capacity for pipe in PIPES)
-    into = {
-        place: sum(carried[it.name] for it in PIPES if it.head == place)
-        for place in ("Weir", "Town", "Port", "Sea")
-    }
-    out = {
-        place: sum(carried[it.name] for it in PIPES if it.tail == place)
-        for place in ("Weir", "Town", "Port")
-    }
-    assert (
-        out == {place: into[place] for place in out}
-        and into["Sea"] == VALUE
-        and into["Weir"] <= LET_THROUGH["Weir"]
-    )
-    assert carried["Side"] <= GIVEN["New Mill"]
-
-
-def judge_table(text: str) -> None:
-    found = list(csv.DictReader(io.StringIO(text), delimiter=";"))
-    assert (
-        text.splitlines()[0]
-        == "number;name;from;to;flow (l/s);capacity (l/s);full;in cut;supply (l/s);demand "
-        "(l/s);limit (l/s);Bemerkung"
-    )
-    rows, places = [row for row in found if row["to"]], [row for row in found if not row["to"]]
-    flows = {row["name"]: row["flow (l/s)"].replace(",", ".") for row in rows}
-    judge_flows(flows)
-    # Below the pipes stand the places, and what they give, take and let through. The sink is no
-    # arc, so it has no number and no flow.
-    assert {row["name"]: row["Bemerkung"] for row in rows} == REMARKS
-    assert [[row["from"], *[*row.values()][5:-1]] for row in places] == [
-        ["Mill", "", "no", "no", "x", "", ""],
-        [
-            "New Mill",
-            "",
-            "yes" if Fraction(flows["Side"]) == GIVEN["New Mill"] else "no",
-            "no",
-            "20,05",
-            "",
-            "",
-        ],
-        ["Sea", "", "", "", "", "x", ""],
-        ["Weir", "", "no", "no", "", "", "55,5"],
-    ]
-    given = {row["from"]: row["flow (l/s)"].replace(",", ".") for row in places}
-    assert given == {
-        "Mill": flows["Main"],
-        "New Mill": flows["Side"],
-        "Weir": told(VALUE),
-        "Sea": "",
-    }
-    assert {row["name"] for row in places} == {""}
-    assert [
-        (row["from"], row["to"], number(row["capacity (l/s)"]), row["name"]) for row in rows
-    ] == PIPES
-    assert {row["name"] for row in rows if row["in cut"] == "yes"} == LIMIT
-
-
 def test_dmf_dot(folder: Path) -> None:
     ran = run("dmf-dot", f"{folder}/pipes.max", "-", typed=solved(folder))
     judge_picture(ran.stdout)
-
-
-def judge_picture(text: str) -> None:
-    assert '  label="numbers in l/s, from pipes.csv"\n' in text and not any(
-        word in text for word in INNER
-    )
-    judge_flows(
-        {
-            found[1]: found[2]
-            for found in re.finditer(r' -> [0-9]+ \[label="([^"]*)\\n([0-9.]+)/[0-9.]+"', text)
-        }
-    )
-    nodes = re.findall(r'^  [0-9]+ \[label="([^"]*)"', text, re.MULTILINE)
-    assert sorted(re.sub(r" [0-9.]+(/|$)", r" .\1", node) for node in nodes) == [
-        r"Mill\ngives .",
-        r"New Mill\ngives ./20.05",
-        "Port",
-        "Sea",
-        "Town",
-        r"Weir\nlets through ./55.5",
-    ]
 
 
 def test_dmf_sweep(folder: Path, tmp_path: Path) -> None:
@@ -446,119 +324,3 @@ def test_picture_of_a_board(page: Board) -> None:
         "55.5",
         "20.05",
     }
-
-
-def test_what_is_saved_is_read_back(folder: Path, tmp_path: Path) -> None:
-    """A problem that was saved says all of its table, and each tool tells the same of it. So does
-    the text of a session."""
-    files = [tmp_path / f"again.{kind}" for kind in ("max", "csv", "dot")]
-    typed = "".join(f"{'draw' if file.suffix == '.dot' else 'save'} {file}\n" for file in files)
-    assert planned(folder, f"solve\n{typed}", f"{folder}/pipes.max").returncode == 0
-    problem, table, drawn = (file.read_text() for file in files)
-    assert problem == (folder / "pipes.max").read_text()
-    judge_table(table)
-    judge_picture(drawn)
-    for said in (
-        "c capacities are those of the table times 100",
-        "c unit l/s",
-        "c decimal sign ,",
-        "c table pipes.csv",
-        "c inner node 7 half 2",
-    ):
-        assert f"{said}\n" in problem
-    printed = subprocess.run(
-        [BUILT, "session", folder / "pipes.max"],
-        input="close 1\nprint problem\n",
-        capture_output=True,
-        check=True,
-        text=True,
-    ).stdout
-    named = run("dmf-names", f"{folder}/pipes.max", typed=printed).stdout.partition("\n")[2]
-    again = read_problem(named.encode()).described
-    before = read_problem((folder / "pipes.max").read_bytes()).described
-    assert (again.measure, again.joints, again.halves) == (
-        before.measure,
-        before.joints,
-        before.halves,
-    )
-    assert again.roles == {number - 1: role for number, role in before.roles.items()}
-
-
-def test_a_session_by_names(folder: Path, tmp_path: Path) -> None:
-    """The numbers of replies, and of commands in a transcript, are told in the table's terms beside
-    them."""
-    commands = "solve\ncap 6 1015\nsolve\n"
-    ran = subprocess.run(
-        [BUILT, "session", "--brief", folder / "pipes.max"],
-        input=commands,
-        capture_output=True,
-        check=True,
-        text=True,
-    )
-    (tmp_path / "commands").write_text(commands)
-    lines = run(
-        "dmf-names",
-        f"{folder}/pipes.max",
-        "--commands",
-        str(tmp_path / "commands"),
-        typed=ran.stdout,
-    ).stdout.splitlines()
-    assert lines[:2] == [
-        f"value {told(VALUE)} l/s",
-        f"c cap value {VALUE * 100} ({told(VALUE)} l/s)",
-    ]
-    replies = ran.stdout.splitlines()
-    transcript = "".join(
-        f"{line}\n" for pair in zip(commands.splitlines(), replies) for line in pair
-    )
-    lines = run("dmf-names", f"{folder}/pipes.max", typed=transcript).stdout.splitlines()
-    assert lines[2] == "cap 6 1015 (10.15 l/s)"
-
-
-def test_a_plan_is_a_table(folder: Path, tmp_path: Path) -> None:
-    """The saved plan is read as a table: the same numbers, unit, names, sources and limits."""
-    ran = planned(folder, f"solve\nsave {tmp_path}/plan.csv\n", f"{folder}/pipes.max")
-    assert ran.stdout.splitlines()[-1] == f"written: {tmp_path}/plan.csv"
-    ran = run(
-        "dmf-plan",
-        f"{tmp_path}/plan.csv",
-        typed=f"solve\nsave {tmp_path}/again.csv\nsave {tmp_path}/again.max\n",
-    )
-    assert ran.stdout.splitlines()[0].startswith(f"value {told(VALUE)} l/s, ")
-    assert (tmp_path / "again.csv").read_text() == (tmp_path / "plan.csv").read_text()
-    assert (tmp_path / "again.max").read_text() == (folder / "pipes.max").read_text().replace(
-        "table pipes.csv", "table plan.csv"
-    )
-    named = run("dmf-names", f"{folder}/pipes.max", "--csv", typed=solved(folder))
-    assert (named.stdout, named.stderr) == ((tmp_path / "plan.csv").read_text(), "")
-
-
-def test_a_point(folder: Path, tmp_path: Path) -> None:
-    """Where the table's decimal sign is a point, typed and saved numbers have it too, and commas
-    part the cells."""
-    path = tmp_path / "point.max"
-    path.write_text((folder / "pipes.max").read_text().replace("sign ,", "sign ."))
-    ran = planned(
-        folder,
-        f"solve\ncap Exit 1,200\nundo\ncap Exit 47,3\nundo\nsave {tmp_path}/plan.csv\nsteps\n",
-        str(path),
-    )
-    assert (ran.returncode, ran.stderr) == (0, "")
-    assert "Exit carries 47.3 l/s" in ran.stdout
-    rows = list(csv.reader((tmp_path / "plan.csv").open()))
-    assert [row[5] for row in rows[1:] if row[3]] == [told(pipe.capacity) for pipe in PIPES]
-    swept = run("dmf-sweep", str(path), "--close-each", "--top", "1").stdout.splitlines()
-    assert swept[1].split(",")[3:5] == ["0", f"-{told(VALUE)}"]
-
-
-@pytest.mark.parametrize("scale", ["60", "0.3"])
-def test_no_finite_numbers(folder: Path, tmp_path: Path, scale: str) -> None:
-    """Numbers that are no finite decimals divided by the scale are told as they are, and the unit
-    says so."""
-    path = tmp_path / "sixty.max"
-    path.write_text((folder / "pipes.max").read_text().replace("times 100\n", f"times {scale}\n"))
-    ran = planned(folder, f"solve\ncap Exit 1.5\nsave {tmp_path}/plan.csv\n", str(path))
-    assert ran.stdout.startswith(f"value {VALUE * 100} l/s times {scale}, ")
-    assert ran.stderr == "dmf-plan: line 2: 1.5 has 1 decimal, and 0 are the most here\n"
-    titles = (tmp_path / "plan.csv").read_text().splitlines()[0]
-    assert f"flow (l/s times {scale});capacity (l/s times {scale})" in titles

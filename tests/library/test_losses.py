@@ -8,7 +8,6 @@ from collections.abc import Collection
 from contextlib import suppress
 from ctypes import c_uint64
 from dataclasses import replace
-from pathlib import Path
 from random import Random
 
 import pytest
@@ -27,23 +26,14 @@ def library() -> Library:
     return Library(library_folder())
 
 
-def example(library: Library) -> CSession:
-    return library.read(Path("examples/a.max").read_bytes())
-
-
-def state(session: CSession) -> tuple[object, ...]:
-    numbers = tuple(session.number(name) for name in ("value", "past", "future", "arcs"))
-    return numbers, session.array("flows"), session.array("capacities"), session.text("problem")
-
-
 def losses(session: CSession) -> tuple[tuple[int, ...], tuple[int, ...]]:
     """The losses of the arcs and of the nodes. The session is as it was."""
-    before = state(session)
+    before = session.state()
     found = (
         session.array("arc_losses"),
         session.filled("node_losses", c_uint64, session.number("nodes")),
     )
-    assert state(session) == before
+    assert session.state() == before
     return found
 
 
@@ -51,7 +41,7 @@ def test_by_hand(library: Library) -> None:
     """Of the 5 that arrive, 2 go by arcs 1 and 4, 2 by arcs 2 and 5, and 1 by arcs 1, 3 and 5.
     Without arc 1 or node 2 only the two of arc 2 are left, and without arc 5 or node 3 those of arc
     4; without arc 4 arc 5 is full, and without arc 2 arc 1 is; without arc 3 one is lost."""
-    with example(library) as session:
+    with library.example() as session:
         session.step("solve")
         assert losses(session) == ((3, 2, 1, 2, 3), (0, 3, 3, 0))
         # Three are left, by arc 5. Arc 1 alone can bring them, and arc 2 only two.
@@ -93,18 +83,18 @@ def test_an_array_of_another_length(library: Library, call: str, right: int, cou
     """Of a flow that is not greatest too: the length is judged first."""
     if count == right:
         return
-    with example(library) as session:
+    with library.example() as session:
         for _ in range(2):
-            before = state(session)
+            before = session.state()
             with pytest.raises(Refused) as refused:
                 session.filled(call, c_uint64, count)
-            assert refused.value.status == BAD_LENGTH and state(session) == before
+            assert refused.value.status == BAD_LENGTH and session.state() == before
             session.step("solve")
 
 
 @pytest.mark.parametrize(("call", "right"), zip(CALLS, (ARCS, NODES)))
 def test_a_flow_that_is_not_greatest(library: Library, call: str, right: int) -> None:
-    with example(library) as session:
+    with library.example() as session:
         for step in None, ("solve",), ("cap", 1, 9), ("cap", 4, 9):
             if step:
                 session.step(*step)
@@ -112,10 +102,10 @@ def test_a_flow_that_is_not_greatest(library: Library, call: str, right: int) ->
             if step in (("solve",), ("cap", 1, 9)):
                 assert len(session.filled(call, c_uint64, right)) == right
                 continue
-            before = state(session)
+            before = session.state()
             with pytest.raises(Refused) as refused:
                 session.filled(call, c_uint64, right)
-            assert refused.value.status == NOT_GREATEST and state(session) == before
+            assert refused.value.status == NOT_GREATEST and session.state() == before
 
 
 def left(wanted: State, out: Collection[int]) -> int:

@@ -7,7 +7,6 @@ from __future__ import annotations
 from contextlib import suppress
 from dataclasses import replace
 from itertools import product
-from pathlib import Path
 from random import Random
 
 import networkx
@@ -25,33 +24,24 @@ def library() -> Library:
     return Library(library_folder())
 
 
-def example(library: Library) -> CSession:
-    return library.read(Path("examples/a.max").read_bytes())
-
-
-def state(session: CSession) -> tuple[object, ...]:
-    numbers = tuple(session.number(name) for name in ("value", "past", "future", "arcs"))
-    return numbers, session.array("flows"), session.array("capacities"), session.text("problem")
-
-
 def found(session: CSession) -> tuple[int, tuple[int, ...], tuple[int, ...]]:
     """The value, the flows and the side. They are the same if some are not asked for, and the
     session is as it was."""
-    before, arcs, nodes = state(session), session.number("arcs"), session.number("nodes")
+    before, arcs, nodes = session.state(), session.number("arcs"), session.number("nodes")
     whole = session.maximum_flow(arcs, nodes)
     value, flows, side = whole
     assert session.maximum_flow(0, 0) == (value, (), ())
     assert session.maximum_flow(0, nodes) == (value, (), side)
     assert session.maximum_flow(arcs, 0)[0] == value
     session.check(session.maximum_flow(arcs, 0)[1])
-    assert state(session) == before
+    assert session.state() == before
     return whole
 
 
 def test_by_hand(library: Library) -> None:
     """Arcs 1 and 2 can send 5, and arcs 4 and 5 can take 5. Without arc 4 only arc 5 leads to the
     sink, and takes 3; with capacity 9 it takes the 5 that arcs 1 and 2 send."""
-    with example(library) as session:
+    with library.example() as session:
         for step in None, ("solve",):
             if step:
                 session.step(*step)
@@ -98,12 +88,12 @@ def test_the_largest_capacity(library: Library) -> None:
 )
 def test_an_array_of_another_length(library: Library, flow_count: int, side_count: int) -> None:
     """Also if the other array has its length, before and after a solve."""
-    with example(library) as session:
+    with library.example() as session:
         for _ in range(2):
-            before = state(session)
+            before = session.state()
             with pytest.raises(Refused) as refused:
                 session.maximum_flow(flow_count, side_count)
-            assert refused.value.status == BAD_LENGTH and state(session) == before
+            assert refused.value.status == BAD_LENGTH and session.state() == before
             session.step("solve")
 
 

@@ -5,7 +5,6 @@ from __future__ import annotations
 
 from ctypes import byref, c_size_t, c_uint8, c_uint64
 from itertools import product
-from pathlib import Path
 
 import pytest
 from c_library import (
@@ -31,10 +30,6 @@ OVER_CAPACITY, NOT_CONSERVED = 13, 14
 @pytest.fixture(scope="module")
 def library() -> Library:
     return Library(library_folder())
-
-
-def opened(library: Library) -> CSession:
-    return library.read(Path("examples/a.max").read_bytes())
 
 
 def state(session: CSession) -> tuple[object, ...]:
@@ -112,7 +107,7 @@ def test_a_bound_past_the_largest_and_no_problem_text(library: Library) -> None:
 @pytest.mark.parametrize("name", ["flows", "capacities"])
 @pytest.mark.parametrize("count", [0, 1, ARCS - 1, ARCS + 1, NODES])
 def test_an_array_of_another_length(library: Library, name: str, count: int) -> None:
-    with opened(library) as session:
+    with library.example() as session:
         with pytest.raises(Refused) as refused:
             session.filled(name, c_uint64, count)
         assert refused.value.status == BAD_LENGTH
@@ -124,7 +119,7 @@ RANGE = (TAILS, HEADS, [3, 2, 5, 0, 3], [1, 2, 1, 0, 3], [0, 0, 0, 1, 0])
 
 
 def solved_and_closed(library: Library) -> CSession:
-    session = opened(library)
+    session = library.example()
     session.step("solve")
     session.step("close", 4)
     return session
@@ -185,7 +180,7 @@ def test_a_range_with_an_array_of_another_length(
 @pytest.mark.parametrize("count", [0, 1, NODES - 1, NODES + 1])
 def test_a_side_of_another_length(library: Library, count: int) -> None:
     """Of a flow that is not greatest too: the length is judged first."""
-    with opened(library) as session:
+    with library.example() as session:
         for _ in range(2):
             with pytest.raises(Refused) as refused:
                 session.filled("side", c_uint8, count)
@@ -194,7 +189,7 @@ def test_a_side_of_another_length(library: Library, count: int) -> None:
 
 
 def test_a_side(library: Library) -> None:
-    with opened(library) as session:
+    with library.example() as session:
         with pytest.raises(Refused) as refused:
             session.filled("side", c_uint8, NODES)
         assert refused.value.status == NOT_GREATEST
@@ -217,7 +212,7 @@ def test_a_side(library: Library) -> None:
     ],
 )
 def test_a_check(library: Library, flows: tuple[int, ...], status: int, place: int) -> None:
-    with opened(library) as session:
+    with library.example() as session:
         before = state(session)
         if status == OK:
             session.check(flows)
@@ -232,7 +227,7 @@ def test_a_check(library: Library, flows: tuple[int, ...], status: int, place: i
 def test_a_text_with_room_left(library: Library, name: str) -> None:
     """What stands behind the text stays, and no 0 is added; a byte too little is refused, and the
     whole length told."""
-    with opened(library) as session:
+    with library.example() as session:
         session.step("solve")
         text = session.text(name)
         for room in len(text) - 1, len(text), len(text) + 9:
@@ -270,7 +265,7 @@ def test_a_refused_command(
     library: Library, word: str, numbers: tuple[int, ...], status: int
 ) -> None:
     """Three states stand before the present one, and one after it."""
-    with opened(library) as session:
+    with library.example() as session:
         for step in "solve", "close 5", "solve", "cap 1 1", "undo 1":
             name, *given = step.split()
             session.step(name, *map(int, given))
@@ -282,7 +277,7 @@ def test_a_refused_command(
 
 
 def test_the_number_of_an_added_arc(library: Library) -> None:
-    with opened(library) as session:
+    with library.example() as session:
         session.step("solve")
         for number in 6, 7:
             session.step("add", 1, 4, number)

@@ -12,8 +12,9 @@ from pathlib import Path
 
 import pytest
 from conftest import BUILT, ROOT
-from terminal_rows import PROBLEMS, SOLUTIONS, Text
+from terminal_rows import PROBLEMS, Text
 from terminal_sessions import HELP, INVITATION, NETWORK, OPENING, SESSION, SOLVED, WORDS, Words
+from terminal_solutions import SOLUTIONS
 from terminals import SECONDS, Terminal, typed, with_terminal, without_terminal
 
 

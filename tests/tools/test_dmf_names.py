@@ -23,13 +23,9 @@ from conftest import BUILT, ROOT
 from dmf.desk.export import table
 from dmf.desk.workspace import Desk
 from dmf.tables.loader import LoadedProblem
+from names_faults import FAULTS, LATER
 from names_rows import (
-    FAULTS,
-    LATER,
-    NO_TABLES,
     ROADS,
-    TABLES,
-    TITLES,
     TOLD_OF,
     TOWN_CHANGES,
     TOWN_DRAWN,
@@ -38,6 +34,7 @@ from names_rows import (
     UNKNOWN,
     WARNED,
 )
+from names_tables import NO_TABLES, TABLES, TITLES
 from tool_runs import Ran, Text, Tools, put, text, wait_until_asleep
 
 TOOL = str(ROOT / "tools" / "dmf-names")

@@ -17,7 +17,8 @@ from built import heed_interrupts
 from conftest import ROOT
 from dmf.tools.command import Status
 from oracle import program
-from table_cases import FAULTS, PROBLEMS, VALUES, WARNINGS, WRONG_WORDS, Case
+from table_cases import PROBLEMS, VALUES, Case
+from table_faults import FAULTS, WARNINGS, WRONG_WORDS
 from tool_runs import Ran, Tools, put, wait_until_read
 
 TOOL = str(ROOT / "tools" / "dmf-problem")

@@ -80,7 +80,7 @@ class Shown:
         return self.desk.network.names.place_of(whole(near, "near")) if near else ()
 
     def _picture_in(self, form: int) -> Picture:
-        """Return the picture for a window that is as wide as so many hundredths of its height; 0 if
+        """Return the picture for a window of this form: its width in percent of its height, or 0 if
         that is not known."""
         if not form or not self._is_laid_out:
             return self.picture
