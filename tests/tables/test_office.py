@@ -17,6 +17,7 @@ from dmf.tables.loader import Stages, TableOptions, read_subject, subject_of
 from dmf.tables.table_file import ReadOptions
 from dmf.tools.desk_options import RowCount
 from dmf.tools.options import add_words, words_of
+from matrix_sheets import MATRICES
 from office_shared import at_a_terminal, ends_of, greatest
 from office_sheets import ASKED, READ, Arcs, Asked, Read
 from packages import load
@@ -43,7 +44,7 @@ def judge(network: Any, arcs: Arcs) -> None:
 def test_all_are_judged() -> None:
     names = [path.name for path in OFFICE.iterdir()]
     assert (
-        sorted(names) == sorted([*READ, *ASKED])
+        sorted(names) == sorted([*READ, *ASKED, *MATRICES])
         and len(names) > 60
         and not READ.keys() & ASKED.keys()
     )

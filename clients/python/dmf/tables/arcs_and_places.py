@@ -14,7 +14,6 @@ from .amount_columns import Amounts
 from .asides import MOST_WORDS, Aside, kind_of, told_aside
 from .headings import ARCS, PLACE_COLUMNS, Form, Layout
 from .line_ends import lines_of
-from .matrices import matrix_of
 from .readers import (
     LONGEST_CELL,
     Numbers,
@@ -369,11 +368,10 @@ class _ArcReader(Reader):
 
 
 def arcs_in(sheet: Sheet, reading: ReadOptions) -> Sheet:
-    """Return a sheet with a row for each arc: that of a matrix, that of lines with their ends, or
-    the sheet as it is. Raises a `TableFault`."""
+    """Return a sheet with a row for each arc: that of lines with their ends, or the sheet as it
+    is. Raises a `TableFault`."""
     first_rows(sheet)
-    matrix = None if reading.titles else matrix_of(sheet, is_asked=reading.is_matrix)
-    return lines_of(matrix or sheet, reading)
+    return lines_of(sheet, reading)
 
 
 def read_arcs(sheet: Sheet, reading: ReadOptions) -> Table:

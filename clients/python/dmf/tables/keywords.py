@@ -19,6 +19,7 @@ _KEYWORDS = [
     (r"--decimal ([.,])", r'decimal="\1"'),
     (r"--ignore " + _VALUE, r"ignore=[\1]"),
     (r"--ignore", "ignore="),
+    (r"--(needs|source|sink) " + _VALUE, r"\1=\2"),
     (r"--missing unlimited", 'missing="unlimited"'),
     (r"--(missing|scale) ([0-9]+)", r"\1=\2"),
     (r"--(velocity|tanks|tolerance|needs|shift|daily)\b", r"\1="),

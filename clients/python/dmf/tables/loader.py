@@ -9,7 +9,7 @@ from collections.abc import Callable, Collection, Iterator, Mapping, Sequence
 from dataclasses import dataclass, field, replace
 from decimal import Decimal
 from functools import cached_property, partial
-from typing import Any, Optional, TypeVar
+from typing import Any, Optional
 
 from ..errors import OptionFault, TableFault
 from ..files import read_file, standard_input
@@ -19,9 +19,9 @@ from ..text.problem_text import problem_in
 from ..text.spelling import MOST_TOLD, quoted_name
 from ..text.table_comments import TableComments, described, table_comments
 from .arcs_and_places import Term, read_arcs, read_places, terms_of
-from .column_question import ColumnQuestion
 from .file_kinds import FileKind, has_table, kind_of, refuse_settings, sheets_of
 from .headings import ARCS, PLACE_COLUMNS, STATES, Form, spoken
+from .matrix_arcs import matrix_tables
 from .other_columns import Extra, extra_in, extra_of, left_out
 from .problem_builder import (
     KINDS,
@@ -35,7 +35,7 @@ from .problem_builder import (
 from .readers import Table
 from .roster_arcs import roster_tables
 from .row_states import lead
-from .setting_question import SettingQuestion
+from .setting_question import answered
 from .sheet import Faults, Rows, Sheet, naming
 from .table_file import ReadOptions, TableFile
 from .title_row import fits
@@ -55,7 +55,7 @@ PLACE_TABLES: dict[str, Sequence[str]] = {
 class TableOptions:
     """The options for tables: how they are read and encoded, the scale, whether rows go both ways,
     the words that name sources and sinks, the files of tables of places, by the option, the
-    function that reads these, and the kinds of terms that are `named` elsewhere."""
+    function that reads these, and the places of each kind that are `named` elsewhere."""
 
     reading: ReadOptions = ReadOptions()
     encoding: Optional[str] = None
@@ -65,14 +65,19 @@ class TableOptions:
     sink: Sequence[str] = ()
     tables: Mapping[str, str] = field(default_factory=dict)
     read: Callable[[str], bytes] = read_file
-    named: Collection[str] = ()
+    named: Mapping[str, Collection[str]] = field(default_factory=dict)
+
+    @property
+    def ends(self) -> dict[str, list[str]]:
+        """The places that options name as sources and sinks, by `supply` and `demand`."""
+        given = zip(KINDS, (self.source, self.sink))
+        return {kind: [*words, *self.named.get(kind, ())] for kind, words in given}
 
     @property
     def kinds_named(self) -> set[str]:
         """The kinds, out of supplies, demands and limits, that these options name."""
-        given = [(SUPPLY, self.source), (DEMAND, self.sink)]
         told = {kind for option in self.tables for kind in PLACE_TABLES[option]}
-        return {*self.named, *(kind for kind, words in given if words), *told}
+        return {*self.named, *(kind for kind, words in self.ends.items() if words), *told}
 
 
 def split_path(path: str) -> tuple[str, str]:
@@ -161,15 +166,16 @@ def _table_of(
 ) -> tuple[Table, Sequence[Sheet]]:
     """Return the table of arcs in a sheet, and the sheets of its places. Raises a `TableFault`."""
     reading = wanted.reading
-    roster = roster_tables(sheet, reading)
-    if roster is None:
+    matrix = matrix_tables(sheet, reading, wanted.ends)
+    cross = matrix or roster_tables(sheet, reading)
+    if cross is None:
         return read_arcs(sheet, reading), others
-    if wanted.both_ways:
+    if wanted.both_ways and not matrix:
         raise TableFault("the table is a roster, whose rows lead one way: leave out --both-ways")
-    # The titles are those of the roster, and its arcs have their own.
-    table = read_arcs(roster.arcs, replace(reading, titles={}, ignored=()))
-    roster.add_places(table)
-    return table, [roster.places]
+    # The titles are those of the matrix or the roster, and its arcs have their own.
+    table = read_arcs(cross.arcs, replace(reading, titles={}, ignored=()))
+    cross.add_places(table)
+    return table, [*(others if matrix else ()), *([cross.places] if cross.places else ())]
 
 
 def _add_beside(plan: NetworkTables, sheet: Sheet, wanted: TableOptions) -> None:
@@ -182,7 +188,7 @@ def _add_beside(plan: NetworkTables, sheet: Sheet, wanted: TableOptions) -> None
         plan.headings.pop()
         said = plan.terms[before:]
         plan.terms[before:] = [term for term in said if term.kind not in named]
-        for kind, noun in (SUPPLY, "supplies"), (DEMAND, "demands"):
+        for kind, noun in (SUPPLY, "supplies"), (DEMAND, "demands"), (LIMIT, "limits"):
             if kind in named and any(term.kind == kind for term in said):
                 plan.notes.append(f"the {noun} of the file are left out, since options name others")
     elif not wanted.tables:
@@ -299,11 +305,8 @@ def says_table(words: argparse.Namespace) -> bool:
 
 def wanted_of(words: argparse.Namespace) -> TableOptions:
     """Return what the arguments say of the tables."""
-    tables = {
-        option: getattr(words, option)
-        for option in PLACE_TABLES
-        if getattr(words, option) is not None
-    }
+    given = {option: getattr(words, option) for option in PLACE_TABLES}
+    tables = {option: path for option, path in given.items() if path is not None}
     reading = ReadOptions(
         words.titles,
         words.decimal,
@@ -327,23 +330,6 @@ def wanted_of(words: argparse.Namespace) -> TableOptions:
         tuple(words.sink),
         tables,
     )
-
-
-Read = TypeVar("Read")
-
-
-def answered(words: argparse.Namespace, read: Callable[[], Read]) -> Read:
-    """Return what is read with these arguments. Where somebody is there to answer, they are asked
-    for what cannot be settled, and the answer is one of the arguments from then on."""
-    while True:
-        try:
-            return read()
-        except (ColumnQuestion, SettingQuestion) as question:
-            question.name_path(words.path or "")
-            answer = words.ask(question) if words.ask and question.is_arcs else None
-            if answer is None:
-                raise
-            question.settle(words, answer)
 
 
 # In how many of its first lines the problem line of a file is looked for.

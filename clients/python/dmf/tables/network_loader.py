@@ -121,7 +121,8 @@ def read_table(
     missing
         What a missing capacity is read as: 0 or "unlimited".
     ignore
-        The titles of columns from which nothing is read; `extra` has them.
+        The titles of columns from which nothing is read; `extra` has them. In a matrix, also the
+        first cells of rows, and `extra` has nothing.
     matrix
         Whether rows are tails, and the titles of the other columns heads.
     velocity
@@ -131,7 +132,8 @@ def read_table(
     tolerance
         How far apart ends of lines on a map may lie that are one place, in the map's units.
     needs
-        In a roster: the first text of the row that says how many people each shift needs.
+        In a roster: the first text of the row that says how many people each shift needs. In a
+        matrix: that of the row, or the title of the column, that says what places take.
     shift
         How much of what a person may work a shift takes, such as 8 hours.
     daily
@@ -166,6 +168,8 @@ def read_table(
         None if shift is None else shift_of(str(shift)),
         str(daily) and daily_of(str(daily)),
     )
+    given_ends = (SUPPLY, _most(source)), (DEMAND, _most(sink))
+    ends = {kind: most for kind, most in given_ends if most is not None}
     wanted = TableOptions(
         reading,
         encoding,
@@ -175,16 +179,15 @@ def read_table(
         (),
         paths,
         _read,
-        {kind for kind, ends in ((SUPPLY, source), (DEMAND, sink)) if ends is not None},
+        ends,
     )
     if isinstance(table, (str, os.PathLike)):
         path = os.fspath(table)
         plan = load_tables(wanted, path, _read(split_path(path)[0]))
     else:
         plan = plan_of_sheet(wanted, _sheet_of_frame(table), [])
-    for kind, ends in (SUPPLY, source), (DEMAND, sink):
-        plan.terms += _terms_of(kind, ends, plan)
-    plan.terms += _terms_of(LIMIT, limits, plan)
+    for kind, most in (*ends.items(), (LIMIT, limits)):
+        plan.terms += _terms_of(kind, most, plan)
     with naming(plan.arcs.path):
         return network_of_plan(plan, program, history)
 
@@ -206,10 +209,14 @@ def _read(path: str) -> bytes:
         return file.read()
 
 
-def _terms_of(kind: str, ends: Terminals, plan: NetworkTables) -> Iterator[Term]:
+def _most(ends: Terminals) -> Optional[Mapping[str, Any]]:
+    """Return places with the most that each gives or takes; None if none were given."""
     if isinstance(ends, str):
         ends = [ends]
-    most = ends if isinstance(ends, Mapping) else dict.fromkeys(ends or ())
+    return ends if ends is None or isinstance(ends, Mapping) else dict.fromkeys(ends)
+
+
+def _terms_of(kind: str, most: Mapping[str, Any], plan: NetworkTables) -> Iterator[Term]:
     for place, quantity in most.items():
         yield Term(kind, place, None if quantity is None else _quantity(quantity, plan))
 

@@ -14,6 +14,7 @@ from .column_finder import layout_of
 from .column_question import ColumnQuestion
 from .headings import ARCS, CHOSEN, NAMED, Layout, name_of_column
 from .loader import Stages
+from .matrix_arcs import matrix_tables
 from .sheet import Rows, Sheet
 from .table_file import ReadOptions
 from .title_row import column_number, heading_at, named_row, title_row
@@ -69,7 +70,8 @@ def preview_of(stages: Stages, reading: ReadOptions) -> Preview:
 def _arcs_in(sheet: Sheet, reading: ReadOptions) -> Sheet:
     """Return the sheet whose columns are to be found, or the sheet as it is, if it has a fault."""
     try:
-        return arcs_in(sheet, reading)
+        matrix = matrix_tables(sheet, reading, {})
+        return matrix.arcs if matrix else arcs_in(sheet, reading)
     except TableFault:
         return sheet
 

@@ -9,7 +9,7 @@ from collections import defaultdict
 from collections.abc import Mapping, Sequence
 from dataclasses import dataclass, field
 from itertools import count, islice
-from typing import Any, NamedTuple, Union
+from typing import Any, NamedTuple, Optional, Union
 
 from ..errors import TableFault
 from ..text.both_ways import TwoWayArcs
@@ -178,6 +178,20 @@ class Table:
 
     def fault(self, reason: str, line: int = 0) -> TableFault:
         return TableFault(reason, line, self.path)
+
+
+class CrossTables(NamedTuple):
+    """What a matrix or a roster says: the sheet of its arcs, that of its places if it says
+    something of them, and the names of the places that need have no arc."""
+
+    arcs: Sheet
+    places: Optional[Sheet]
+    names: Sequence[str]
+
+    def add_places(self, table: Table) -> None:
+        """Add the places that have no arc to those of the table of the arcs."""
+        for name in self.names:
+            table.places.setdefault(name, len(table.places) + 1)
 
 
 class Reader:

@@ -8,15 +8,15 @@ from collections.abc import Iterator, Sequence
 from dataclasses import dataclass, field, replace
 from decimal import Decimal
 from functools import partial
-from typing import NamedTuple, Optional
+from typing import Optional
 
 from ..errors import TableFault
 from ..quantity import plain_text
 from ..text.spelling import cleaned, quoted_name
 from .amount_cells import is_limitless, is_missing, read_cell
-from .readers import Table, name_of
+from .readers import CrossTables, name_of
 from .roster_words import counts_shifts, is_mark, unit_of_limits
-from .rosters import Roster, RosterRow, Shift, roster_in
+from .rosters import Roster, RosterRow, Shift, refuse_options, roster_in
 from .setting_question import SettingQuestion
 from .sheet import Exact, Faults, Rows, Sheet, cell_of
 from .table_file import ReadOptions
@@ -25,21 +25,6 @@ PLACE_TITLES = ["place", "supply", "demand"]
 # How many days a line names.
 MOST_DAYS = 7
 ALL = "all"
-
-
-class RosterTables(NamedTuple):
-    """The sheet of the arcs of a roster, that of its places, and the names of all people and
-    shifts."""
-
-    arcs: Sheet
-    places: Sheet
-    names: Sequence[str]
-
-    def add_places(self, table: Table) -> None:
-        """Add the people who can take no shift, and the shifts that nobody can take, to the places
-        of the arcs."""
-        for name in self.names:
-            table.places.setdefault(name, len(table.places) + 1)
 
 
 @dataclass
@@ -52,14 +37,12 @@ class _Person:
     shifts: dict[str, Shift] = field(default_factory=dict)
 
 
-def roster_tables(sheet: Sheet, reading: ReadOptions) -> Optional[RosterTables]:
+def roster_tables(sheet: Sheet, reading: ReadOptions) -> Optional[CrossTables]:
     """Return the tables of a roster, or None if a sheet has none. Raises a `TableFault`, and a
     question if an option must say something."""
     roster = None if sheet.taken else roster_in(sheet, reading)
     if roster is None:
-        for option in "needs", "shift", "daily":
-            if getattr(reading, option):
-                raise TableFault(f"--{option} is for rosters, and this is none: leave it out")
+        refuse_options(reading, is_matrix=False)
         return None
     return _RosterMaker(sheet, roster, reading).tables()
 
@@ -83,7 +66,7 @@ class _RosterMaker:
             return unit_of_limits(self.roster.titles[limit])
         return "shifts" if self.length == 1 else ""
 
-    def tables(self) -> RosterTables:
+    def tables(self) -> CrossTables:
         """Return the tables. Raises a `TableFault` with all cells that cannot be read."""
         for row in self.roster.needs:
             self._take_needs(row)
@@ -99,7 +82,7 @@ class _RosterMaker:
             self.sheet, read=partial(_read, [*self._arc_rows()]), notes=notes, taken=self._taken()
         )
         places = Sheet(self.sheet.path, partial(_read, [*self._place_rows()]), gives_way=True)
-        return RosterTables(arcs, places, [*self.people, *self.needs])
+        return CrossTables(arcs, places, [*self.people, *self.needs])
 
     # Options.
 

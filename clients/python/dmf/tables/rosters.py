@@ -79,6 +79,15 @@ def roster_in(sheet: Sheet, reading: ReadOptions) -> Optional[Roster]:
     return _RosterFinder(lines, reading).roster()
 
 
+def refuse_options(reading: ReadOptions, *, is_matrix: bool) -> None:
+    """Raise a `TableFault` if an option was given that only rosters read, or matrices too."""
+    if reading.needs and not is_matrix:
+        raise TableFault("--needs is for rosters and matrices, and this is neither: leave it out")
+    for option in "shift", "daily":
+        if getattr(reading, option):
+            raise TableFault(f"--{option} is for rosters, and this is none: leave it out")
+
+
 def _may_be(sample: Rows, reading: ReadOptions) -> bool:
     """Return True if the first rows have marks in several columns, or an option names the row of
     needs, and no titles of arcs."""

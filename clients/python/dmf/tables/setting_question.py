@@ -8,9 +8,12 @@ import re
 import shlex
 from collections.abc import Callable, Sequence
 from decimal import Decimal
-from typing import Any, NamedTuple
+from typing import Any, NamedTuple, TypeVar
 
 from ..errors import TableFault
+from .column_question import ColumnQuestion
+
+Read = TypeVar("Read")
 
 
 class Setting(NamedTuple):
@@ -133,3 +136,17 @@ def velocity_question(unit: str) -> SettingQuestion:
         f"how fast does water flow at most? The file has diameters, and no capacities (in {unit})",
         "velocity",
     )
+
+
+def answered(words: argparse.Namespace, read: Callable[[], Read]) -> Read:
+    """Return what is read with these arguments. Where somebody is there to answer, they are asked
+    for what cannot be settled, and the answer is one of the arguments from then on."""
+    while True:
+        try:
+            return read()
+        except (ColumnQuestion, SettingQuestion) as question:
+            question.name_path(words.path or "")
+            answer = words.ask(question) if words.ask and question.is_arcs else None
+            if answer is None:
+                raise
+            question.settle(words, answer)

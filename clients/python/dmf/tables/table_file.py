@@ -20,8 +20,8 @@ class ReadOptions:
     are the places where arcs begin, and columns those where they end. In a network of EPANET water
     flows at a `velocity` in m/s, and `tanks` are `source` or `none`. Ends of lines on a map that
     are not farther apart than `tolerance` are one place. In a roster the row of needs begins with
-    `needs`, a shift takes `shift` of what a person may work, and a person works at most `daily`
-    shifts a day, a number or `all`."""
+    `needs`, as may a row or a column of a matrix; a shift takes `shift` of what a person may work,
+    and a person works at most `daily` shifts a day, a number or `all`."""
 
     titles: Mapping[str, str] = field(default_factory=dict)
     sign: str = ""

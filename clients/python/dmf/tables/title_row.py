@@ -51,14 +51,11 @@ def heading_at(sample: Rows, at: int) -> TitleRow:
                 _joined(above[place], cell) if place < len(above) else cell
                 for place, cell in enumerate(cells)
             ]
-        texts = [next(cleaned(cell) for cell in row if cell.strip()) for row in sample.cells[:at]]
-        shown = ", ".join(quoted_name(text[:LONGEST_LEFT]) for text in texts[:MOST_LEFT])
-        rest = ", .." if at > MOST_LEFT else ""
-        notes.append(f"the titles are in line {line}; what stands above is left out: {shown}{rest}")
+        notes.append(told_above(sample, at))
     titles = list(map(title_of, cells))
     rows = sample.cells[at + 1 :]
     begin = line + 1
-    if rows and _has_units(rows[0]):
+    if rows and has_units(rows[0]):
         begin = sample.lines[at + 1] + 1
         for place, cell in enumerate(rows[0][: len(titles)]):
             if not titles[place].unit:
@@ -68,13 +65,22 @@ def heading_at(sample: Rows, at: int) -> TitleRow:
     return TitleRow(tuple(titles), line, begin, rows, sample.cells[at], tuple(notes))
 
 
+def told_above(sample: Rows, at: int) -> str:
+    """Return the line that tells what stands above the titles."""
+    texts = [next(cleaned(cell) for cell in row if cell.strip()) for row in sample.cells[:at]]
+    shown = ", ".join(quoted_name(text[:LONGEST_LEFT]) for text in texts[:MOST_LEFT])
+    rest = ", .." if at > MOST_LEFT else ""
+    line = sample.lines[at]
+    return f"the titles are in line {line}; what stands above is left out: {shown}{rest}"
+
+
 def _joined(above: str, cell: str) -> str:
     """Return a title, with what stands above it if it has nothing but a unit."""
     title = title_of(cell)
     return cell if title.word or not above.strip() else f"{above} {cell}".strip()
 
 
-def _has_units(row: Sequence[str]) -> bool:
+def has_units(row: Sequence[str]) -> bool:
     """Return True if a row has nothing but units."""
     cells = [cell for cell in row if cell.strip()]
     return (
