@@ -1,21 +1,18 @@
-"""Reports: the numbers of the stories, as a second computation gives them; one file that needs no
-other, in which names are text; and that it fits a screen, a phone and a sheet of A4."""
+"""Reports: the numbers of the stories, as a second computation gives them; and one file that needs
+no other, in which names are text."""
 
 from __future__ import annotations
 
-import base64
 import itertools
 import random
 import re
 import shutil
-import subprocess
-from collections.abc import Iterator
-from html.parser import HTMLParser
 from pathlib import Path
 from typing import Any
 from xml.etree import ElementTree
 
 import dmf
+import networkx
 import pytest
 from client_shared import BUILT
 from desk_shared import (
@@ -36,50 +33,8 @@ from dmf.desk.project.report import checked, findings, report
 from dmf.desk.project.scenarios import project_of
 from dmf.desk.steps import DeskFault
 from dmf.desk.workspace import Desk
-from packages import load
 from project_shared import named, new_project, supply_project, water_project
-from test_board_lines import on_curve, points
-
-
-class Page(HTMLParser):
-    """What a page has: the cells of each row of its tables, its headings, what it takes from
-    elsewhere, and its pictures."""
-
-    def __init__(self, text: str) -> None:
-        super().__init__()
-        self.rows: list[list[str]] = []
-        self.headings: list[str] = []
-        self.taken: list[str] = []
-        self.text, self.tags = "", set[str]()
-        self._into: list[str] | None = None
-        self.feed(text)
-        self.pictures = [
-            base64.b64decode(it.partition(",")[2]).decode()
-            for it in self.taken
-            if it.startswith("data:image/svg+xml;base64,")
-        ]
-
-    def handle_starttag(self, tag: str, attrs: list[tuple[str, str | None]]) -> None:
-        self.tags.add(tag)
-        self.taken += [
-            value or ""
-            for name, value in attrs
-            if name in ("src", "href", "srcset", "action", "data")
-        ]
-        if tag == "tr":
-            self.rows.append([])
-        if tag in ("td", "th", "h2"):
-            self._into = self.headings if tag == "h2" else self.rows[-1]
-            self._into.append("")
-
-    def handle_endtag(self, tag: str) -> None:
-        if tag in ("td", "th", "h2"):
-            self._into = None
-
-    def handle_data(self, data: str) -> None:
-        self.text += data
-        if self._into is not None:
-            self._into[-1] += data
+from report_page import Page, judge_labels, limits, named_in, rows_below
 
 
 def test_water(tmp_path: Path) -> None:
@@ -125,15 +80,23 @@ def test_water(tmp_path: Path) -> None:
         for name, (_, doubled) in wanted.items()
         if doubled > 165
     }
-    # Ten of each are listed, those that cost and bring most first, and how many more there are.
+    # Ten pipes and five places are listed, those that cost most, and how many more there are.
     shown = {it for it in tried if it[1].isdigit()}
     pipes = water()
     left = {
         place: greatest([it for it in pipes if place not in it[:2]])
         for place in {name for pipe in pipes for name in pipe[:2]} - {"Reservoir", "Harbour"}
     }
-    places = {(name, str(165 - it), str(it)) for name, it in left.items() if it < 165}
+    costly = sorted((it, name) for name, it in left.items() if it < 165)
+    places = {(name, str(165 - it), str(it)) for it, name in costly[:5]}
+    assert costly[4][0] < costly[5][0]
     assert shown <= losses | gains | places and shown >= gains | places
+    assert f"and {len(costly) - 5} more" in page.text
+    assert (
+        "Each value is the most that can be sent with only this pipe closed, or only this place "
+        f"shut; it was found for all {len(pipes)} pipes and {len(left)} places. The only source "
+        "and the only sink are not among the places."
+    ) in page.text
     listed = sorted((int(loss) for _, loss, _ in shown & losses - gains), reverse=True)
     assert listed == sorted((int(loss) for _, loss, _ in losses), reverse=True)[:10]
     assert f"and {len(losses) - 10} more" in page.text
@@ -149,36 +112,6 @@ def test_water(tmp_path: Path) -> None:
         judge_labels(picture)
     assert (project_of(desk).scenario.name, desk.value) == ("today", 165)
     desk.end()
-
-
-SVG = "{http://www.w3.org/2000/svg}"
-
-
-def named_in(picture: str) -> set[str]:
-    """The texts of a picture."""
-    return {it.text or "" for it in ElementTree.fromstring(picture).iter(f"{SVG}text")}
-
-
-def judge_labels(picture: str) -> None:
-    """Each arc of the bottleneck, which is red, has a label, and no line crosses the letters of any
-    label. A letter is taken as half as wide as high."""
-    groups = [*ElementTree.fromstring(picture).iter(f"{SVG}g")]
-    curves = []
-    for group in groups[1:]:
-        path = group.find(f"{SVG}path")
-        if path is not None:
-            curves.append(on_curve(points(path.get("d") or "")))
-            assert path.get("stroke") != "#c62828" or group.findall(f"{SVG}text"), group.get("id")
-    for text in (text for group in groups[1:] for text in group.findall(f"{SVG}text")):
-        size, x, y = (float(text.get(name) or 0) for name in ("font-size", "x", "y"))
-        half = len(text.text or "") * size / 4
-        crossing = [
-            (right, down)
-            for curve in curves
-            for right, down in curve
-            if abs(right - x) < half and y - 0.7 * size < down < y
-        ]
-        assert not crossing, (text.text, crossing[0])
 
 
 def test_demands(tmp_path: Path) -> None:
@@ -198,59 +131,6 @@ def test_demands(tmp_path: Path) -> None:
         ["South", "9", "9", "met"],
     ]
     assert "2 of 3 demands are short." in page.text
-
-
-def test_labels_are_read_on_paper(tmp_path: Path) -> None:
-    """The picture of a town has at most 30 labels, each at least 8 points high on a sheet of A4,
-    and none on another or on a line; all of the bottleneck are among them. No list has more than
-    five names without saying how many more there are."""
-    chance = random.Random(4)
-    rows = [
-        f"P{row}{column},P{row + down}{column + 1 - down},{chance.randint(3, 9)},{row}{column}"
-        for row in range(9)
-        for column in range(9)
-        for down in (0, 1)
-    ]
-    rows += [f"P9{at},P9{at + 1},4,last {at}" for at in range(9)]
-    rows += [f"P{at}9,P{at + 1}9,4,right {at}" for at in range(9)]
-    (tmp_path / "town.csv").write_text("from,to,litres,pipe\n" + "\n".join(rows) + "\n")
-    words = ["--source", "P00", "--sink", "P99", f"{tmp_path}/town.csv"]
-    ran = run("dmf-plan", *words, typed=f"solve\nreport {tmp_path}/report.html\n")
-    assert ran.returncode == 0, ran.stderr
-    page = Page((tmp_path / "report.html").read_text())
-    [picture] = page.pictures
-    root = ElementTree.fromstring(picture)
-    _, _, width, height = map(float, (root.get("viewBox") or "").split())
-    # In points: a sheet of 210 mm less its margins of 16 mm and those of the frame.
-    by = min((210 - 2 * 16) / 25.4 * 72 / width, 116 / 25.4 * 72 / height)
-    labels = []
-    for group in root.iter("{http://www.w3.org/2000/svg}g"):
-        texts = group.findall("{http://www.w3.org/2000/svg}text")
-        if texts:
-            labels.append([(float(it.get("x") or 0), float(it.get("y") or 0)) for it in texts])
-            assert all(float(it.get("font-size") or 0) * by >= 8 for it in texts)
-    assert 5 < len(labels) <= 30
-    spots = [spot for label in labels for spot in label]
-    assert all(
-        abs(one[1] - other[1]) * by >= 8 or abs(one[0] - other[0]) * by >= 8
-        for one, other in itertools.combinations(spots, 2)
-    )
-    limit = {row[0].partition(",")[0] for rows in limits(page) for row in rows}
-    names = {it.text for it in root.iter("{http://www.w3.org/2000/svg}text")}
-    assert limit and limit <= names
-    judge_labels(picture)
-    assert re.search("Before it: (?:[^,]+, ){4}[^,]+ and [0-9]+ more", page.text)
-
-
-def limits(page: Page) -> list[list[list[str]]]:
-    """The rows of each table of a limit."""
-    found: list[list[list[str]]] = []
-    for row in page.rows:
-        if row[:1] == ["limit"]:
-            found.append([])
-        elif found and len(row) == 2:
-            found[-1].append(row)
-    return found
 
 
 def test_alone(tmp_path: Path) -> None:
@@ -299,19 +179,97 @@ def test_nothing_can_be_sent(tmp_path: Path) -> None:
 
 
 def test_what_is_not_tried_is_said(tmp_path: Path, monkeypatch: pytest.MonkeyPatch) -> None:
-    monkeypatch.setattr(project_findings, "MOST_TRIED", 5)
+    """Second ones beside a part of the bottleneck alone; and no losses in a network that is too
+    large to ask for them."""
+    monkeypatch.setattr(project_findings, "MOST_TRIED", 2)
+    monkeypatch.setattr(project_findings, "LARGE", 15)
     desk = water_project(tmp_path)
-    found = findings(desk).tried
-    assert (
-        found.said
-        == "of 14 arcs only the 3 of the limit were tried, each alone; others may be worse to lose"
-    )
-    assert [name.partition(",")[0] for name, _ in found.losses] == [
-        "North rise",
-        "South main",
-        "Mill Lane",
-    ]
+    found, wanted = findings(desk).tried, swept()
+    assert found.losses and found.losses.worst_arcs.more == len(
+        [closed for closed, _ in wanted.values() if closed < 165]
+    ) - len(found.losses.worst_arcs.losses)
+    gains = {name.partition(",")[0]: gain for name, gain in found.gains}
+    assert gains == {name: wanted[name][1] - 165 for name in ("North rise", "Mill Lane")}
+    said = "A second one was tried beside the first 2 of the 3 parts of the bottleneck"
+    assert said in Page(report(desk)).text
+    monkeypatch.setattr(project_findings, "LARGE", 14)
+    text = Page(report(desk)).text
+    assert "What is lost without one of so many pipes was not asked for." in text
+    assert findings(desk).tried.losses is None and "loses" not in text
     desk.end()
+
+
+def test_the_worst_of_all_arcs(tmp_path: Path) -> None:
+    """The ten arcs that are worst to lose of more than 300, and the five places, beside networkx,
+    which solves without each. Most of them are not in the bottleneck."""
+    chance, size, graph = random.Random(7), 13, networkx.DiGraph()
+    for row, column, down in itertools.product(range(size), range(size), (0, 1)):
+        if max(row + down, column + 1 - down) < size:
+            head = f"P{row + down}-{column + 1 - down}"
+            is_inner = 5 < row + column < 2 * size - 8
+            most = chance.randint(3, 9) * (1 if is_inner else 20)
+            graph.add_edge(f"P{row}-{column}", head, capacity=most)
+    rows = [f"{tail},{head},{most}" for tail, head, most in graph.edges(data="capacity")]
+    (tmp_path / "town.csv").write_text("from,to,litres\n" + "\n".join(rows) + "\n")
+    ends = "P0-0", f"P{size - 1}-{size - 1}"
+    words = ["--source", ends[0], "--sink", ends[1], f"{tmp_path}/town.csv"]
+    ran = run("dmf-plan", *words, typed=f"solve\nreport {tmp_path}/report.html\n")
+    assert ran.returncode == 0, ran.stderr
+
+    def left(graph: Any) -> int:
+        return int(networkx.maximum_flow_value(graph, *ends))
+
+    def without(take: str, what: Any) -> int:
+        other = graph.copy()
+        getattr(other, take)(*what)
+        return left(other)
+
+    value = left(graph)
+    arcs = sorted(without("remove_edge", it) for it in graph.edges)
+    places = sorted(without("remove_node", (it,)) for it in graph.nodes if it not in ends)
+    page = Page((tmp_path / "report.html").read_text())
+    titles = ["closed", "place that is shut", "with a second one beside it"]
+    found = rows_below(page, titles[0])
+    assert [int(row[2]) for row in found] == arcs[:10] and len(graph.edges) > 300
+    for arc, loss, then in found:
+        assert without("remove_edge", arc.split(" -> ")) == int(then) == value - int(loss)
+    listed = rows_below(page, titles[1])
+    assert [int(row[2]) for row in listed] == places[:5]
+    for place, loss, then in listed:
+        assert without("remove_node", (place,)) == int(then) == value - int(loss)
+    limit = {row[0] for table in limits(page) for row in table}
+    assert {row[0] for row in found} - limit
+    assert f"for all {len(graph.edges)} arcs and {len(graph.nodes) - 2} places" in page.text
+
+
+def test_a_roster(tmp_path: Path) -> None:
+    """A report of a roster speaks of people and shifts, also from a project, and names each person
+    and each shift of the bottleneck in its picture. The numbers are those of the story."""
+    shutil.copy(ROOT / "examples/rota/rota.csv", tmp_path)
+    words = ["--shift", "8", "--daily", "1", "--keep", f"{tmp_path}/rota.csv"]
+    ran = run("dmf-plan", *words, typed=f"report {tmp_path}/report.html\n")
+    assert ran.returncode == 0, ran.stderr
+    page = Page((tmp_path / "report.html").read_text())
+    for said in (
+        "rota: how many hours can be staffed",
+        "10 people and 9 shifts, in hours.",
+        "All that is staffed counts against these 7, and together they allow 120 hours at most.",
+        "1 of 9 shifts is short.",
+        "Each value is the most that can be staffed with only this connection closed, or only this "
+        "person, day or shift left out; it was found for all 53 connections and 42 people, days "
+        "and shifts.",
+    ):
+        assert said in page.text, said
+    for water_word in "sent", "carries", "widen", "demand", "place":
+        assert not re.search(rf"\b{water_word}", page.text), water_word
+    assert ["Sun night", "8", "0", "8 hours short"] in page.rows
+    # Nobody else has the hours of those who are lost with the five shifts of the bottleneck.
+    worst = rows_below(page, "person, day or shift")
+    assert worst[0] == ["Sat late", "24", "96"]
+    assert {(row[1], row[2]) for row in worst[1:]} == {("16", "104")} and len(worst) == 5
+    for picture in page.pictures:
+        judge_labels(picture)
+        assert {"Cem", "Dora", "Sun early", "Fri late"} <= named_in(picture)
 
 
 def test_the_table_has_its_arcs(tmp_path: Path) -> None:
@@ -382,94 +340,3 @@ def test_from_the_terminal_and_from_python(tmp_path: Path) -> None:
         "already exists"
         in run("dmf-plan", project_of(desk).file.path, typed=f"report {tmp_path}/one.html\n").stderr
     )
-
-
-@pytest.fixture(scope="module")
-def driver() -> Iterator[Any]:
-    webdriver = load("selenium.webdriver")
-    service = load("selenium.webdriver.chrome.service")
-    options: Any = webdriver.ChromeOptions()
-    for word in (
-        "--headless=new",
-        "--no-sandbox",
-        "--disable-gpu",
-        "--disable-dev-shm-usage",
-        "--hide-scrollbars",
-    ):
-        options.add_argument(word)
-    made = webdriver.Chrome(service=service.Service("/usr/bin/chromedriver"), options=options)
-    yield made
-    made.quit()
-
-
-def shown(driver: Any, path: Path, width: int, scheme: str = "light", height: int = 900) -> None:
-    """Shows a page in a window of this size."""
-    driver.execute_cdp_cmd(
-        "Emulation.setEmulatedMedia",
-        {"features": [{"name": "prefers-color-scheme", "value": scheme}]},
-    )
-    size = {"width": width, "height": height, "deviceScaleFactor": 1, "mobile": width < 500}
-    driver.execute_cdp_cmd("Emulation.setDeviceMetricsOverride", size)
-    driver.get(path.as_uri())
-
-
-def test_it_fits(tmp_path: Path, driver: Any) -> None:
-    """On a wide screen, on a phone, in light and dark, with long names: nothing is wider than the
-    page; and printed, it has pages of A4."""
-    desk = water_project(tmp_path)
-    project_of(desk).rename("W" * 200)
-    desk.add(desk.network.names.place("Mill"), desk.network.names.place("Station"), 25, "N" * 300)
-    (tmp_path / "report.html").write_text(report(desk))
-    desk.end()
-    page = tmp_path / "report.html"
-    for width in 1280, 768, 400:
-        for scheme in "light", "dark":
-            shown(driver, page, width, scheme)
-            seen, wide = driver.execute_script(
-                "return [document.documentElement.clientWidth, "
-                "document.documentElement.scrollWidth]"
-            )
-            assert seen == wide == width
-            back = driver.execute_script("return getComputedStyle(document.body).backgroundColor")
-            assert (sum(map(int, re.findall("[0-9]+", back))) < 200) == (scheme == "dark")
-    pdf = base64.b64decode(
-        driver.execute_cdp_cmd("Page.printToPDF", {"preferCSSPageSize": True})["data"]
-    )
-    boxes = re.findall(rb"/MediaBox \[0 0 ([0-9.]+) ([0-9.]+)\]", pdf)
-    assert boxes and all(
-        (round(float(width)), round(float(height))) == (595, 842) for width, height in boxes
-    )
-
-
-def test_the_picture_of_the_story(tmp_path: Path, driver: Any, writes: bool) -> None:
-    """The pictures of the water story, on a wide screen and on a phone in the dark, which are made
-    at least, and with --write put."""
-    shutil.copy(ROOT / "examples/water/pipes.csv", tmp_path)
-    story = (ROOT / "examples/water/today.txt").read_text() + f"report {tmp_path}/report.html\n"
-    assert run("dmf-plan", f"{tmp_path}/pipes.csv", "--keep", typed=story).returncode == 0
-    for name, width, scheme in ("report", 1280, "light"), ("report-small", 400, "dark"):
-        shown(driver, tmp_path / "report.html", width, scheme, height=1000)
-        picture = driver.get_screenshot_as_png()
-        assert int.from_bytes(picture[16:20], "big") == width
-        if writes:
-            (ROOT / f"docs/pictures/{name}.png").write_bytes(picture)
-    printed = tmp_path / "report.pdf"
-    printed.write_bytes(
-        base64.b64decode(
-            driver.execute_cdp_cmd("Page.printToPDF", {"preferCSSPageSize": True})["data"]
-        )
-    )
-    assert printed.read_bytes().count(b"/Type /Page\n") <= 2
-    if writes:
-        subprocess.run(
-            [
-                "pdftoppm",
-                "-png",
-                "-r",
-                "55",
-                "-singlefile",
-                printed,
-                ROOT / "docs/pictures/report-paper",
-            ],
-            check=True,
-        )

@@ -15,7 +15,7 @@ from ..quantity import plain_text
 from ..text.spelling import cleaned, quoted_name
 from .amount_cells import is_limitless, is_missing, read_cell
 from .readers import CrossTables, name_of
-from .roster_words import counts_shifts, is_mark, unit_of_limits
+from .roster_words import SAID_OF_ROSTERS, counts_shifts, is_mark, unit_of_limits
 from .rosters import Roster, RosterRow, Shift, refuse_options, roster_in
 from .setting_question import SettingQuestion
 from .sheet import Exact, Faults, Rows, Sheet, cell_of
@@ -262,7 +262,7 @@ class _RosterMaker:
         ward = f", wards from {roster.called(roster.ward)}" if roster.ward is not None else ""
         days = f" ({self.most} a day, of {_listed(self._days())})" if self.most else ""
         return (
-            f"a roster: people from {roster.called(roster.name)}{most}{ward}, needs from"
+            f"{SAID_OF_ROSTERS}people from {roster.called(roster.name)}{most}{ward}, needs from"
             f" {self._needs_cell()}, {len(roster.shifts)} shifts{length}{days}{self._kept()}"
         )
 

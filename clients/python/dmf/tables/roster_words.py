@@ -4,6 +4,7 @@ shift, which row has the needs, which columns have limits and wards, and which d
 from __future__ import annotations
 
 import re
+from collections.abc import Iterable
 from typing import Optional
 
 from .sheet import Exact
@@ -72,6 +73,15 @@ def is_limit(title: Title) -> bool:
     words = set(title.words) | set(folded(title.unit).split())
     counts = _HOURS | _SHIFTS
     return bool(words & counts) and counts | _BESIDE_LIMITS >= words
+
+
+# The first words of the sentence that says how a roster was read.
+SAID_OF_ROSTERS = "a roster: "
+
+
+def is_of_roster(notes: Iterable[str]) -> bool:
+    """Return True if the notes on how a table was read say that it is a roster."""
+    return any(note.startswith(SAID_OF_ROSTERS) for note in notes)
 
 
 def counts_shifts(title: Title) -> bool:

@@ -9,31 +9,33 @@ from __future__ import annotations
 import os
 import subprocess
 import tempfile
-from collections.abc import Iterator
+from collections.abc import Callable, Iterator
 from html import escape
 from pathlib import Path
 
-from ...quantity import Quantity, magnitude
+from ...quantity import EXACT, magnitude
 from ...session import executable
 from ...session.base import Program
+from ...tables.roster_words import is_of_roster
 from ...text.lexical import display
 from ...text.table_comments import DEMAND
-from ..analysis import trials_of
+from ..analysis import seconds_of
 from ..answers import LARGE
 from ..demands import limited_amounts
 from ..export import problem, taken
-from ..steps import DeskFault, Trial
+from ..steps import DeskFault
 from ..workspace import Desk
-from ..worth import worst_places
+from ..worth import Loss, worst, worst_places
 from .comparison import ArcDifference, compare
 from .records import ENDING, Scenario
-from .report_findings import Demand, Findings, Section, Tried
+from .report_findings import Demand, Findings, Section, Tried, Worst, WorstLosses
 from .report_picture import HIGH, LOW, readable
 from .report_text import report_lines
 from .scenarios import BASE, Scenarios
 
-# How many arcs are tried for what is worst to lose, and how long a check may take, in seconds.
-MOST_TRIED = 300
+# How many arcs and places are listed as the worst to lose, beside how many arcs of the limit a
+# second one is tried, and how long a check may take, in seconds.
+MOST_ARCS, MOST_PLACES, MOST_TRIED = 10, 5, 300
 PATIENCE = 60
 
 
@@ -77,16 +79,17 @@ def _section(
     desk: Desk,
     name: str,
     first: int,
+    high: float = LOW,
     scenario: Scenario | None = None,
     differences: tuple[ArcDifference, ...] = (),
 ) -> Section:
     """Return what is to be said of what a desk shows, whose steps begin with this one: of a
-    scenario, if it is one."""
+    scenario, if it is one. Its picture is this high at most, in points."""
     network, cut = desk.network, [*desk.cut_arcs()]
     limit = zip(cut, desk.flows_on(cut))
     picture, why = "", ""
     try:
-        picture = readable(desk, LOW if scenario or Scenarios.of(desk) else HIGH)
+        picture = readable(desk, high)
     except DeskFault as fault:
         why = str(fault)
     made = desk.steps[first : desk.at]
@@ -110,55 +113,50 @@ def _section(
 def _sections(desk: Desk) -> Iterator[Section]:
     project = Scenarios.of(desk)
     if project is None:
-        yield _section(desk, "the plan", 0)
+        yield _section(desk, "the plan", 0, HIGH)
         return
     with project.visiting(BASE) as shown:
         yield _section(shown, BASE, 1)
     for scenario in project.project.scenarios:
         differences = compare(project, BASE, scenario.name).arcs
         with project.visiting(scenario.name) as shown:
-            yield _section(shown, scenario.name, 1, scenario, differences)
+            yield _section(shown, scenario.name, 1, LOW, scenario, differences)
 
 
 def _tried(desk: Desk) -> Tried:
-    """Return what the arcs of the present state mean for its value."""
-    network = desk.network
-    open_arcs = network.opened_pipes()
-    is_all = len(open_arcs) <= MOST_TRIED
-    cut = list(desk.cut_arcs())
-    numbers = list(dict.fromkeys([*cut, *open_arcs])) if is_all else cut[:MOST_TRIED]
-    told = f"each of the {len(open_arcs)} arcs and of the limit was tried alone"
-    if not is_all:
-        told = (
-            f"of {len(open_arcs)} arcs only the {len(numbers)} of the limit were tried, each "
-            "alone; "
-            "others may be worse to lose"
-        )
-    found: list[Trial] = list(trials_of(desk, numbers))
-    value, name = desk.value, network.names.arc
-    losses = [(name(it.arc), value - it.closed) for it in found if it.closed < value]
+    """Return what the arcs and places of the present state mean for its value."""
+    value, name, cut = desk.value, desk.network.names.arc, [*desk.cut_arcs()]
+    tried = cut[:MOST_TRIED]
     gains = [
-        (name(it.arc), it.doubled - value)
-        for it in found
+        (name(it.arc), EXACT.subtract(it.doubled, value))
+        for it in seconds_of(desk, tried)
         if it.doubled is not None and it.doubled > value
     ]
     return Tried(
         desk.state.scenario or "the plan",
         value,
-        tuple(sorted(losses, key=lambda it: -it[1])),
+        _losses(desk),
         tuple(sorted(gains, key=lambda it: -it[1])),
-        told,
-        _lost_places(desk),
+        len(cut),
+        len(tried),
     )
 
 
-def _lost_places(desk: Desk) -> tuple[tuple[str, Quantity], ...] | None:
-    """Return the places whose loss costs something, the greatest loss first, with what each loses;
-    None if the network is too large to ask."""
-    if len(desk.network.lines) >= LARGE:
+def _losses(desk: Desk) -> WorstLosses | None:
+    """Return what is worst to lose, or None if the network is too large to ask."""
+    network = desk.network
+    if len(network.lines) >= LARGE:
         return None
-    found, _ = worst_places(desk, len(desk.network.lines))
-    return tuple((desk.network.names.node(it.number), it.loss) for it in found)
+
+    def named(found: list[Loss], more: int, name: Callable[[int], str]) -> Worst:
+        return Worst(tuple((name(it.number), it.loss) for it in found), more)
+
+    return WorstLosses(
+        named(*worst(desk, MOST_ARCS), network.names.arc),
+        named(*worst_places(desk, MOST_PLACES), network.names.node),
+        len(network.opened_pipes()),
+        len(network.inner_places()),
+    )
 
 
 def _table_arcs(desk: Desk) -> int:
@@ -189,6 +187,9 @@ def findings(desk: Desk) -> Findings:
         subject.noun or "arc",
         names.terminal(network.source),
         names.terminal(network.sink),
+        len(network.sources),
+        len(network.sinks),
+        is_of_roster(subject.notes),
         _table_arcs(desk),
         len(names.places),
         tuple(assumed),

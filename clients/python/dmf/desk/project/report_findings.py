@@ -37,25 +37,43 @@ class Section:
     check: str
 
 
+class Worst(NamedTuple):
+    """The arcs or the places whose loss costs most, by their names, with what each loses, the
+    greatest loss first; and how many others cost something."""
+
+    losses: tuple[tuple[str, Quantity], ...]
+    more: int
+
+
+class WorstLosses(NamedTuple):
+    """What is worst to lose of all arcs of the table, and of all places without the only source and
+    the only sink; and how many arcs and places these are."""
+
+    worst_arcs: Worst
+    worst_places: Worst
+    arcs: int
+    places: int
+
+
 @dataclass(frozen=True)
 class Tried:
-    """What the arcs mean for the value of a scenario, by their names: the losses if one alone is
-    closed, the largest first, and the gains if a second one lies beside one. `said` says which were
-    tried. `places` has the losses if one place alone is shut, or None if they were not asked for.
-    """
+    """What arcs and places mean for the value of a scenario. `losses` is None if the network is too
+    large to ask for them. `gains` are what second ones bring beside arcs of the limit, the largest
+    first; of its `limit` arcs, the first `tried` were tried."""
 
     scenario: str
     value: Quantity
-    losses: tuple[tuple[str, Quantity], ...]
+    losses: WorstLosses | None
     gains: tuple[tuple[str, Quantity], ...]
-    said: str
-    places: tuple[tuple[str, Quantity], ...] | None
+    limit: int
+    tried: int
 
 
 @dataclass(frozen=True)
 class Findings:
     """Everything that a report says about the network and the scenarios of a desk. The first
-    section is the network of the table."""
+    section is the network of the table. `sources` and `sinks` count the places that flow comes from
+    and goes to."""
 
     title: str
     notes: str
@@ -63,6 +81,9 @@ class Findings:
     noun: str
     source: str
     sink: str
+    sources: int
+    sinks: int
+    is_roster: bool
     arcs: int
     places: int
     assumed: tuple[str, ...]

@@ -1,6 +1,6 @@
 """The picture of a report: what Graphviz drew, with at most as many labels as can be read on a
-sheet of A4. Those of the bottleneck and of what was changed come first, and if one of them has no
-room beside its line, a thin line leads to it."""
+sheet of A4. Those of the bottleneck, of what was changed, and of the sources and sinks come first,
+and if one of them has no room beside its line or place, a thin line leads to it."""
 
 from __future__ import annotations
 
@@ -23,9 +23,8 @@ WIDE, HIGH, LOW = 496.0, 330.0, 200.0
 MOST_LABELS, LEAST = 30, 8.2
 # The least thickness of a line, and of one in the bottleneck, in points.
 THIN, THICK = 0.6, 1.6
-# How many times as long as high a picture in layers is at most that has more places than this, and
-# how places are spread out else.
-MOST_LONG, MOST_LAYERED = 3.0, 40
+# How many places are always in layers, and how more may be spread out.
+MOST_LAYERED = 40
 LAYERS = ["-Gnodesep=0.6"]
 FORCES = [f"-G{it}" for it in ("K=1", "repulsiveforce=1.4", "smoothing=triangle", "overlap=prism")]
 # The width of a letter and the height of a line, for letters of size 1.
@@ -86,8 +85,11 @@ class Lines:
     def __init__(self, lines: Iterable[list[Point]]) -> None:
         self._fields: dict[tuple[int, int], list[tuple[int, Point]]] = defaultdict(list)
         for line in lines:
-            for x, y in line:
-                self._fields[int(x // FIELD), int(y // FIELD)].append((id(line), (x, y)))
+            self.add(line)
+
+    def add(self, line: list[Point]) -> None:
+        for x, y in line:
+            self._fields[int(x // FIELD), int(y // FIELD)].append((id(line), (x, y)))
 
     def near(self, box: Box, by: float) -> Iterator[tuple[int, Point]]:
         """Yield the points at most this far from a box, each with the id of its line."""
@@ -174,10 +176,17 @@ class Label:
             for side in out, -out:
                 yield Box(x + side * across[0], y + side * across[1], right, down)
 
+    @property
+    def _origin(self) -> Point:
+        """Return the middle of its place or line."""
+        if self.place:
+            return self.place.x, self.place.y
+        return self.line[len(self.line) // 2] if self.line else (0.0, 0.0)
+
     def far_boxes(self, scale: float) -> Iterator[Box]:
-        """Yield boxes further away from the middle of its line, the nearest first."""
+        """Yield boxes further away from the middle of its line or place, the nearest first."""
         right, down = self.size(scale)
-        x, y = self.line[len(self.line) // 2] if self.line else (0.0, 0.0)
+        x, y = self._origin
         for ring in range(2, 2 * FURTHEST):
             for way in range(WAYS):
                 turn = 2 * math.pi * way / WAYS
@@ -188,16 +197,21 @@ class Label:
                     down,
                 )
 
-    def lead(self, box: Box, scale: float) -> None:
-        """Draw a thin line from its own line to where it is written."""
-        x, y = self.line[len(self.line) // 2]
-        to = (
-            min(max(x, box.x - box.right), box.x + box.right),
-            min(max(y, box.y - box.down), box.y + box.down),
-        )
-        leader = ElementTree.Element(
-            f"{{{SVG}}}path", d=f"M{x:.2f},{y:.2f}L{to[0]:.2f},{to[1]:.2f}", fill="none"
-        )
+    def way_to(self, box: Box) -> list[Point]:
+        """Return points on a straight line from its own line, or the edge of its place, to a box in
+        which it may be written."""
+        x, y = self._origin
+        right = min(max(x, box.x - box.right), box.x + box.right) - x
+        down = min(max(y, box.y - box.down), box.y + box.down) - y
+        place = self.place
+        edge = 1 / math.hypot(right / place.right, down / place.down) if place else 0.0
+        parts = (edge + (1 - edge) * step / STEPS for step in range(STEPS + 1))
+        return [(x + part * right, y + part * down) for part in parts]
+
+    def lead(self, way: list[Point], scale: float) -> None:
+        """Draw a thin line from its own line or place to where it is written."""
+        ends = " ".join(f"{x:.2f},{y:.2f}" for x, y in (way[0], way[-1]))
+        leader = ElementTree.Element(f"{{{SVG}}}polyline", points=ends, fill="none")
         leader.set("stroke", self.texts[0].get("fill") or "black")
         leader.set("stroke-width", f"{0.4 / scale:.2f}")
         self.group.insert([*self.group].index(self.texts[0]), leader)
@@ -221,19 +235,23 @@ def readable(desk: Desk, high: float = HIGH) -> str:
     """Return the picture of a desk, this high at most, with at most `MOST_LABELS` labels, none of
     which lies on a place, on another label or on a line, in letters that can be read on paper.
     Raise a `DeskFault` if it cannot be drawn."""
-    root, network = _drawn(desk), desk.network
+    root, network = _drawn(desk, high), desk.network
     _label(root, {network.names.arc_name(number) for number in network.changed()}, high)
     return ElementTree.tostring(root, encoding="unicode")
 
 
-def _drawn(desk: Desk) -> ElementTree.Element:
-    """Return what Graphviz draws: in layers, unless these are a long strip of many places."""
-    root = ElementTree.fromstring(drawn(desk, "picture.svg", "dot", *LAYERS))
-    _, _, width, height = _view(root)
-    is_long = not 1 / MOST_LONG < width / height < MOST_LONG
-    if not is_long or len(root.findall(f".//{{{SVG}}}ellipse")) <= MOST_LAYERED:
-        return root
-    return ElementTree.fromstring(drawn(desk, "picture.svg", "sfdp", *FORCES))
+def _drawn(desk: Desk, high: float) -> ElementTree.Element:
+    """Return what Graphviz draws: in layers, or spread out if many places are larger so."""
+    layers = ElementTree.fromstring(drawn(desk, "picture.svg", "dot", *LAYERS))
+    if len(layers.findall(f".//{{{SVG}}}ellipse")) <= MOST_LAYERED:
+        return layers
+    spread = ElementTree.fromstring(drawn(desk, "picture.svg", "sfdp", *FORCES))
+    return max(layers, spread, key=lambda root: _scale(*_view(root)[2:], high))
+
+
+def _scale(width: float, height: float, high: float) -> float:
+    """Return the points for a unit of a picture that is fitted to the paper."""
+    return min(1.0, WIDE / width, high / height)
 
 
 def _view(root: ElementTree.Element) -> tuple[float, float, float, float]:
@@ -274,8 +292,8 @@ def _label(root: ElementTree.Element, changed: set[str], high: float) -> None:
     for text in groups[0].findall(f"{{{SVG}}}text"):
         groups[0].remove(text)
     _, _, width, height = _view(root)
-    view = _room(root, 2 * LINE * LEAST / min(1.0, WIDE / width, high / height))
-    scale = min(1.0, WIDE / view.right / 2, high / view.down / 2)
+    view = _room(root, 2 * LINE * LEAST / _scale(width, height, high))
+    scale = _scale(2 * view.right, 2 * view.down, high)
     _thicken(root, scale)
     labels = [
         Label(group, changed) for group in groups[1:] if group.find(f"{{{SVG}}}text") is not None
@@ -295,17 +313,22 @@ class Spots:
         self._lines = Lines(label.line for label in labels if label.line)
         self._view, self._scale = view, scale
         self.taken: list[Box] = []
+        # The lines that lead to labels, which stay as they are: they are known by their identities.
+        self._ways: list[list[Point]] = []
 
     def put(self, label: Label) -> None:
         """Write a label where it can be read, or leave it out."""
         found, is_led = self._spot(label), False
-        if found is None and label.rank < 2 and label.line:
+        if found is None and label.rank <= 2 and (label.line or label.place):
             found, is_led = self._far_spot(label), True
         if found is None or len(self.taken) >= MOST_LABELS:
             label.leave_out()
             return
         if is_led:
-            label.lead(found, self._scale)
+            way = label.way_to(found)
+            label.lead(way, self._scale)
+            self._ways.append(way)
+            self._lines.add(way)
         label.put(found)
         self.taken.append(found)
 
@@ -330,9 +353,14 @@ class Spots:
         )
 
     def _far_spot(self, label: Label) -> Box | None:
-        """Return a spot further away."""
-        boxes = label.far_boxes(self._scale)
-        return next((box for box in boxes if self._is_free(box, label)), None)
+        """Return a spot further away: one to which a line leads that crosses no other label, if
+        there is any."""
+        free = [box for box in label.far_boxes(self._scale) if self._is_free(box, label)]
+        return next((box for box in free if self._leads(label, box)), next(iter(free), None))
+
+    def _leads(self, label: Label, box: Box) -> bool:
+        way = label.way_to(box)
+        return all(taken.away(point) > 0 for taken in self.taken for point in way)
 
 
 def _thicken(root: ElementTree.Element, scale: float) -> None:

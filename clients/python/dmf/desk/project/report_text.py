@@ -12,7 +12,8 @@ from ... import __version__
 from ...quantity import EXACT, Quantity, moved, plain_text
 from ...text.lexical import display
 from .comparison import BOTTLENECK, ArcDifference
-from .report_findings import Demand, Findings, Section, Tried
+from .report_findings import Demand, Findings, Section, Worst
+from .report_words import NETWORK, ROSTER, Words
 from .scenarios import BASE
 
 # The most rows of a table, and the most places in a sentence.
@@ -33,8 +34,11 @@ def _told(amount: Quantity, unit: str) -> str:
     return _text(f"{plain_text(amount)} {unit}".rstrip())
 
 
-def _table(titles: Iterable[tuple[str, bool]], rows: list[list[str]]) -> Iterator[str]:
-    """Yield a table of cells that are markup already. Columns of numbers stand to the right."""
+def _table(
+    titles: Iterable[tuple[str, bool]], rows: list[list[str]], more: int = 0
+) -> Iterator[str]:
+    """Yield a table of cells that are markup already, and how many `more` rows there would be.
+    Columns of numbers stand to the right."""
     heads = list(titles)
 
     def cells(tag: str, row: Iterable[str]) -> str:
@@ -44,23 +48,41 @@ def _table(titles: Iterable[tuple[str, bool]], rows: list[list[str]]) -> Iterato
     yield f"<table><thead><tr>{cells('th', (title for title, _ in heads))}</tr></thead><tbody>"
     yield from (f"<tr>{cells('td', row)}</tr>" for row in rows[:MOST_ROWS])
     yield "</tbody></table>"
-    if len(rows) > MOST_ROWS:
-        yield f'<p class="faint">and {len(rows) - MOST_ROWS} more</p>'
+    more += max(0, len(rows) - MOST_ROWS)
+    if more:
+        yield f'<p class="faint">and {more} more</p>'
 
 
 def _counted(count: int, noun: str) -> str:
     return f"{count} {noun}{'s' * (count != 1)}"
 
 
-def _head(found: Findings) -> Iterator[str]:
-    yield (
-        f"<h1>{_text(found.title)}: what can be sent from {_text(found.source)} to "
-        f"{_text(found.sink)}</h1>"
+def _words(found: Findings) -> Words:
+    return ROSTER if found.is_roster else NETWORK
+
+
+def _filled(sentence: str, found: Findings, **more: object) -> str:
+    """Return a sentence of the report with what was found."""
+    people = f"{found.sources} {'person' if found.sources == 1 else 'people'}"
+    return sentence.format(
+        source=_text(found.source),
+        sink=_text(found.sink),
+        amount=f"many {_text(found.unit)}" if found.unit else "much",
+        arcs=_counted(found.arcs, _text(found.noun)),
+        places=found.places,
+        people=people,
+        shifts=_counted(found.sinks, "shift"),
+        **more,
     )
+
+
+def _head(found: Findings) -> Iterator[str]:
+    words = _words(found)
+    yield f"<h1>{_text(found.title)}: {_filled(words.question, found)}</h1>"
     unit = f", in {_text(found.unit)}" if found.unit else ""
     yield (
-        f'<p class="faint">{_counted(found.arcs, _text(found.noun))} between {found.places} '
-        f'places{unit}. {time.strftime("%-d %B %Y")}.</p>'
+        f'<p class="faint">{_filled(words.size, found)}{unit}. '
+        f'{time.strftime("%-d %B %Y")}.</p>'
     )
     if found.notes:
         yield f'<p class="note">{_lines(found.notes)}</p>'
@@ -121,7 +143,7 @@ def _section_lines(found: Findings, it: Section) -> Iterator[str]:
     yield from _limit(found, it)
     yield "</div>"
     if it.demands:
-        yield from ("<div>", *_demands(it.demands, found.unit), "</div>")
+        yield from ("<div>", *_demands(it.demands, found), "</div>")
     if it.differences:
         yield from ("<div>", *_differences(it.differences), "</div>")
     yield "</div></section>"
@@ -143,21 +165,16 @@ def _steps(steps: tuple[tuple[str, Quantity], ...], unit: str) -> Iterator[str]:
 
 def _limit(found: Findings, it: Section) -> Iterator[str]:
     """Yield the limit in plain words."""
+    words = _words(found)
     yield "<h3>The bottleneck</h3>"
     if not it.limit:
-        yield (
-            f"<p>Nothing leads from {_text(found.source)} to {_text(found.sink)} any more, so "
-            "nothing can be sent.</p>"
-        )
+        yield f"<p>{_filled(words.severed, found)}</p>"
         return
-    one = len(it.limit) == 1
-    yield (
-        f"<p>All that is sent has to pass {'this one' if one else f'these {len(it.limit)}'}, and "
-        f"together {'it carries' if one else 'they carry'} "
-        f"{_told(it.value, found.unit)} at most. To widen only others brings nothing.</p>"
-    )
+    crosses = words.crosses_one if len(it.limit) == 1 else words.crosses
+    value = _told(it.value, found.unit)
+    yield f"<p>{_filled(crosses, found, count=len(it.limit), value=value)}</p>"
     yield from _table(
-        [("limit", False), ("carries at most", True)],
+        [("limit", False), (words.carries, True)],
         [[f'<span class="limit">{_text(arc)}</span>', plain_text(most)] for arc, most in it.limit],
     )
     if it.side:
@@ -166,16 +183,17 @@ def _limit(found: Findings, it: Section) -> Iterator[str]:
         yield f'<p class="faint">Before it: {side}{more}.</p>'
 
 
-def _demands(demands: tuple[Demand, ...], unit: str) -> Iterator[str]:
+def _demands(demands: tuple[Demand, ...], found: Findings) -> Iterator[str]:
     """Yield which places get what they take, those that are short of most first."""
+    words, unit = _words(found), found.unit
     short = [it for it in demands if it.arrives < it.wanted]
-    count = len(demands)
+    count, noun = len(demands), words.demand
     met = (
-        f"{len(short)} of {_counted(count, 'demand')} {'is' if len(short) == 1 else 'are'} short"
+        f"{len(short)} of {_counted(count, noun)} {'is' if len(short) == 1 else 'are'} short"
         if short
-        else f"{'The demand is' if count == 1 else f'All {count} demands are'} met"
+        else f"{f'The {noun} is' if count == 1 else f'All {count} {noun}s are'} met"
     )
-    yield f"<h3>Demands</h3><p>{met}.</p>"
+    yield f"<h3>{words.demands}</h3><p>{met}.</p>"
     rows = [
         [
             _text(it.place),
@@ -187,8 +205,8 @@ def _demands(demands: tuple[Demand, ...], unit: str) -> Iterator[str]:
         ]
         for it in demands
     ]
-    titles = [("place", False), ("takes at most", True), ("gets", True), ("", True)]
-    yield from _table(titles, rows)
+    place, wanted, gets = words.demand_titles
+    yield from _table([(place, False), (wanted, True), (gets, True), ("", True)], rows)
 
 
 def _differences(differences: tuple[ArcDifference, ...]) -> Iterator[str]:
@@ -201,38 +219,60 @@ def _differences(differences: tuple[ArcDifference, ...]) -> Iterator[str]:
 
 
 class _Column(NamedTuple):
-    """A table of what is lost or gained: its titles, its rows, how the value changes by a row, and
-    the sentence if there are none."""
+    """A table of what is lost or gained: its titles, its rows, how many more rows there would be,
+    how the value changes by a row, and the sentence if there are none."""
 
     title: str
     word: str
-    rows: tuple[tuple[str, Quantity], ...]
+    rows: Worst
     sign: Callable[[Quantity, Quantity], Quantity]
     none: str
 
 
-def _columns(tried: Tried) -> Iterator[_Column]:
+def _columns(found: Findings) -> Iterator[_Column]:
     """Yield the tables of what is worst to lose and best to have twice."""
-    none = "Closed alone, none costs anything."
-    yield _Column("closed", "loses", tried.losses, EXACT.subtract, none)
-    if tried.places is not None:
+    tried = found.tried
+    if tried.losses:
+        arcs, places, *_ = tried.losses
+        none = "Closed alone, none costs anything."
+        yield _Column("closed", "loses", arcs, EXACT.subtract, none)
         none = "Shut alone, no place costs anything."
-        yield _Column("place that is shut", "loses", tried.places, EXACT.subtract, none)
+        yield _Column(_words(found).shut, "loses", places, EXACT.subtract, none)
     none = "A second one beside any of them brings nothing."
-    yield _Column("with a second one beside it", "gains", tried.gains, EXACT.add, none)
+    gains = Worst(tried.gains, 0)
+    yield _Column("with a second one beside it", "gains", gains, EXACT.add, none)
 
 
-def _trial_lines(tried: Tried) -> Iterator[str]:
-    yield f"<h2>Worst to lose, best to have twice: {_text(tried.scenario)}</h2>"
-    told = tried.said[:1].upper() + tried.said[1:]
-    told += ". " + (
-        "What is lost without a place was not asked for"
-        if tried.places is None
-        else "The only source and the only sink are not among the places"
+def _reckoned(found: Findings) -> Iterator[str]:
+    """Yield how the values of the tables were reckoned, and of what."""
+    tried, words = found.tried, _words(found)
+    losses, noun = tried.losses, _text(words.arc or found.noun)
+    if losses:
+        yield (
+            f"{_filled(words.worth, found, arc=noun)}; it was found for all "
+            f"{_counted(losses.arcs, noun)} and {losses.places} {words.places}."
+        )
+        if 1 in (found.sources, found.sinks):
+            yield "The only source and the only sink are not among the places."
+    else:
+        yield f"What is lost without one of so many {noun}s was not asked for."
+    all_or_some = (
+        "each part"
+        if tried.tried == tried.limit
+        else (f"the first {tried.tried} of the {tried.limit} parts")
     )
-    yield f'<p class="faint">{_text(told)}.</p>'
+    yield (
+        f"A second one was tried beside {all_or_some} of the bottleneck; beside anything else it "
+        "brings nothing."
+    )
+
+
+def _trial_lines(found: Findings) -> Iterator[str]:
+    tried = found.tried
+    yield f"<h2>Worst to lose, best to have twice: {_text(tried.scenario)}</h2>"
+    yield f'<p class="faint">{" ".join(_reckoned(found))}</p>'
     yield '<div class="beside">'
-    for title, word, rows, sign, none in _columns(tried):
+    for title, word, (rows, more), sign, none in _columns(found):
         if not rows:
             yield f"<p>{none}</p>"
             continue
@@ -240,7 +280,7 @@ def _trial_lines(tried: Tried) -> Iterator[str]:
             [_text(name), plain_text(by), plain_text(sign(tried.value, by))] for name, by in rows
         ]
         titles = [(title, False), (word, True), ("then", True)]
-        yield from ("<div>", *_table(titles, cells), "</div>")
+        yield from ("<div>", *_table(titles, cells, more), "</div>")
     yield "</div>"
 
 
@@ -251,7 +291,7 @@ def report_lines(found: Findings) -> Iterator[str]:
     for section in found.sections:
         yield from _section_lines(found, section)
     yield "</div>"
-    yield from _trial_lines(found.tried)
+    yield from _trial_lines(found)
     yield "<h2>How it was reckoned</h2>"
     if found.assumed:
         yield "<p>Taken for granted when the table was read:</p><ul>"
