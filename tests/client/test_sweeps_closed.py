@@ -1,18 +1,20 @@
-"""Sweeps that close each arc, answered by one run of the program, beside the same sweeps in which
-each case is tried: the results are the same, and so is every byte that dmf-sweep writes."""
+"""Sweeps that close each arc or shut each node, answered by one run of the program, beside the same
+sweeps in which each case is tried: the results are the same, and so is every byte that dmf-sweep
+writes."""
 
 from __future__ import annotations
 
 import subprocess
 import sys
 import time
+from concurrent.futures import ThreadPoolExecutor
 from pathlib import Path
 from random import Random
 from typing import Any
 
 import pytest
 from client_shared import BUILT, ROOT, dmf, environment, interrupted_soon, is_running, script
-from dmf.sweeps import closed_arcs
+from dmf.sweeps import known_values
 
 SECONDS = 20
 COUNT = 8
@@ -47,17 +49,21 @@ def told(results: Any) -> list[tuple[object, ...]]:
 
 @pytest.mark.parametrize("seed", range(25))
 def test_the_same_results(seed: int, monkeypatch: pytest.MonkeyPatch) -> None:
-    """Also for arcs that are closed, or that do not exist, and while the network changes."""
+    """Also for arcs that are closed, for arcs and nodes that do not exist, and while the network
+    changes."""
     random = Random(f"closed {seed}")
     with script(NOTING) as program, random_network(random, program) as network:
         runs = Path(f"{program}.runs")
         every: list[Any] = [f"k{number}" for number in range(network._kept.arc_count - 1)]
-        for arcs in None, [*network.arcs], [*every, "added", "nothing", ("a", "b")]:
+        arcs = None, [*network.arcs], [*every, "added", "nothing", ("a", "b")]
+        nodes = None, range(1, COUNT - 1), [3, 4, "nothing", [], 0, COUNT - 1, 4]
+        sweeps = [*map(dmf.each_arc_closed, arcs), *map(dmf.each_node_shut, nodes)]
+        for cases in sweeps:
             found = []
             for fewest in NEVER, 1:
-                monkeypatch.setattr(closed_arcs, "FEWEST", fewest)
+                monkeypatch.setattr(known_values, "FEWEST", fewest)
                 assert not runs.exists()
-                results = dmf.sweep(network, dmf.each_arc_closed(arcs), jobs=2)
+                results = dmf.sweep(network, cases, jobs=2)
                 network.cap("added", 7)
                 found.append(told(results))
                 network.undo()
@@ -66,13 +72,19 @@ def test_the_same_results(seed: int, monkeypatch: pytest.MonkeyPatch) -> None:
             runs.unlink()
 
 
-def test_when_it_is_worthwhile() -> None:
-    """Many arcs, and most of them."""
-    few = closed_arcs.FEWEST
-    assert closed_arcs.is_worthwhile(few, few)
-    assert closed_arcs.is_worthwhile(few, 2 * few)
-    assert not closed_arcs.is_worthwhile(few - 1, few - 1)
-    assert not closed_arcs.is_worthwhile(few, 2 * few + 1)
+@pytest.mark.parametrize("asked", [dmf.each_arc_closed, dmf.each_node_shut])
+def test_when_it_is_worthwhile(asked: Any, monkeypatch: pytest.MonkeyPatch) -> None:
+    """Many arcs or nodes, and a quarter of all or more. Worked by hand: of a chain of 9 arcs and 10
+    nodes, 3 are such a quarter."""
+    chain = [(at, at + 1, 1, f"k{at}") for at in range(9)]
+    with script(NOTING) as program, dmf.Network(chain, 0, 9, program=program) as network:
+        runs = Path(f"{program}.runs")
+        things: list[Any] = ["k4", "k5", "k6"] if asked is dmf.each_arc_closed else [4, 5, 6]
+        for count, fewest, is_worth_it in (2, 1, False), (3, 4, False), (3, 3, True):
+            monkeypatch.setattr(known_values, "FEWEST", fewest)
+            results = dmf.sweep(network, asked(things[:count]))
+            assert [result.value for result in results] == [0] * count
+            assert runs.exists() == is_worth_it
 
 
 def test_what_needs_more_than_a_value(monkeypatch: pytest.MonkeyPatch) -> None:
@@ -81,26 +93,34 @@ def test_what_needs_more_than_a_value(monkeypatch: pytest.MonkeyPatch) -> None:
     def refuse(*_: object) -> None:
         raise AssertionError
 
-    monkeypatch.setattr(closed_arcs, "FEWEST", 1)
-    monkeypatch.setattr(closed_arcs.ClosedArcs, "begun", refuse)
+    monkeypatch.setattr(known_values, "FEWEST", 1)
+    monkeypatch.setattr(known_values.KnownValues, "beginning", refuse)
     with random_network(Random("more"), BUILT) as network:
-        others: list[Any] = [dmf.each_node_shut(), dmf.each_capacity_raised(1), [[("close", "k0")]]]
+        others: list[Any] = [
+            dmf.each_pair_added([(0, 1)], 2),
+            dmf.each_capacity_raised(1),
+            [[("close", "k0")]],
+            [[("shut", 1)]],
+        ]
         for cases in others:
             assert told(dmf.sweep(network, cases, jobs=1))
-        assert told(dmf.sweep(network, dmf.each_arc_closed(), want_cut=True, jobs=1))
+        for cases in dmf.each_arc_closed(), dmf.each_node_shut():
+            assert told(dmf.sweep(network, cases, want_cut=True, jobs=1))
+            with ThreadPoolExecutor(1) as threads:
+                assert told(dmf.sweep(network, cases, threads))
 
 
 def test_a_program_that_fails(monkeypatch: pytest.MonkeyPatch) -> None:
     """The cases are tried one by one."""
     with script(FAILING) as program, random_network(Random("fails"), program) as network:
         wanted = told(dmf.sweep(network, dmf.each_arc_closed()))
-        monkeypatch.setattr(closed_arcs, "FEWEST", 1)
+        monkeypatch.setattr(known_values, "FEWEST", 1)
         assert told(dmf.sweep(network, dmf.each_arc_closed())) == wanted
 
 
 def test_interrupted(monkeypatch: pytest.MonkeyPatch) -> None:
     """Ctrl-C ends the program."""
-    monkeypatch.setattr(closed_arcs, "FEWEST", 1)
+    monkeypatch.setattr(known_values, "FEWEST", 1)
     hanging = f'test "$1" = vital || exec "{BUILT}" "$@"\necho $$ >"$0.process"; exec sleep 60'
     with script(hanging) as program, random_network(Random("stop"), program) as network:
         with pytest.raises(KeyboardInterrupt), interrupted_soon(1):
@@ -118,7 +138,7 @@ def test_interrupted(monkeypatch: pytest.MonkeyPatch) -> None:
 )
 def test_the_same_bytes(words: list[str], tmp_path: Path) -> None:
     """dmf-sweep, by a program that runs `vital` and by one that cannot."""
-    random, count = Random("bytes"), closed_arcs.FEWEST
+    random, count = Random("bytes"), known_values.FEWEST
     arcs = "".join(
         f"a {random.randint(1, 99)} {random.randint(2, 100)} {random.randrange(99)}\n"
         for _ in range(count)

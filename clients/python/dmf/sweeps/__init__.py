@@ -2,5 +2,6 @@
 executor.
 
 This package must not know tables or a desk.
-Entrances: `cases` (`sweep` and the functions that make cases); `pool` and `copies` try them.
+Entrances: `cases` (`sweep` and the functions that make cases); `pool` and `copies` try them, and
+`known_values` answers those that leave out one arc or node.
 """

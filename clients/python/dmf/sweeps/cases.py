@@ -17,10 +17,10 @@ from ..columns import Node
 from ..errors import Error, JobsOutOfRange, NotAnArc, UnknownCommand, shown_value
 from ..network import Network
 from ..rows import Whole, is_unordered
-from ..session.base import MOST_KEPT, import_package
+from ..session.base import MOST_KEPT, Part, import_package
 from ..session.runners import program_of
-from .closed_arcs import ClosedArcs, is_worthwhile
 from .copies import CaseAnswer, Command, Plain
+from .known_values import KnownValues
 from .pool import ExecutorPool, LocalPool, Pending, RemoteCopy, Tries
 
 if TYPE_CHECKING:
@@ -61,13 +61,16 @@ class SweepResult(Generic[Node]):
     refusal: Error | None = None
 
 
-class _Each(Iterator[Case]):
+class Each(Iterator[Case]):
     """Cases that are made from these things one by one, when they are needed. Their number is known
-    if that of the things is."""
+    if that of the things is. `part` is what each case leaves out, if it does only that."""
 
-    def __init__(self, make: Callable[[Any], Case], things: Iterable[Any]) -> None:
+    def __init__(
+        self, make: Callable[[Any], Case], things: Iterable[Any], part: Part | None = None
+    ) -> None:
         self._cases = map(make, things)
         self._left = operator.length_hint(things)
+        self.part = part
 
     def __next__(self) -> Case:
         case = next(self._cases)
@@ -76,13 +79,6 @@ class _Each(Iterator[Case]):
 
     def __length_hint__(self) -> int:
         return self._left
-
-
-class EachClosed(_Each):
-    """Cases that each close one of these pipes, which are one arc or two: the two ways of it."""
-
-    def __init__(self, pipes: Iterable[Any]) -> None:
-        super().__init__(lambda arcs: [("close", arc) for arc in arcs], pipes)
 
 
 def each_arc_closed(
@@ -102,8 +98,8 @@ def each_arc_closed(
     ...     [result.difference for result in sweep(network, each_arc_closed())]
     [-2, -2]
     """
-    return lambda network: EachClosed(
-        _Each(lambda arc: [arc], network.arcs if arcs is None else arcs)
+    return lambda network: Each(
+        lambda arc: [("close", arc)], network.arcs if arcs is None else arcs, Part.ARC
     )
 
 
@@ -127,9 +123,10 @@ def each_node_shut(
 
     def cases(network: Network[Any]) -> Iterator[Case]:
         ends = network._ends()
-        return _Each(
+        return Each(
             lambda node: [("shut", node)],
             [node for node in network.nodes if node not in ends] if nodes is None else nodes,
+            Part.NODE,
         )
 
     return cases
@@ -160,7 +157,7 @@ def each_capacity_raised(
         # A copy, since the network may change while the cases are taken.
         kept, measure = network._kept.copy(), network._measure
         quantity: Any = int if measure is None else measure.quantity
-        return _Each(
+        return Each(
             lambda arc: [("cap", arc, quantity(kept.capacity(kept.arc(arc)) + more))],
             network.arcs if arcs is None else arcs,
         )
@@ -195,7 +192,7 @@ def each_pair_added(
             raise NotAnArc(f"not an arc: {shown_value(pair)}: expected (tail, head)")
         return [("add", *pair, capacity)]
 
-    return lambda network: _Each(case, pairs)
+    return lambda network: Each(case, pairs)
 
 
 def sweep(
@@ -212,8 +209,9 @@ def sweep(
 
     The network itself does not change, and can be used meanwhile: the cases are tried on the
     network as it is when the sweep begins. Cases are taken when they are needed, so there may be
-    any number of them. If most arcs are closed, each alone, and only values are wanted, one run of
-    the program finds them all, as for `Network.vital`.
+    any number of them. If only values are wanted, and `each_arc_closed` or `each_node_shut` makes a
+    case for a quarter of the arcs or nodes or more, the call finds all values, as `Network.vital`
+    and `Network.vital_nodes` do.
 
     If a case is refused, or if its function raises an error of this package, its result says so.
     Any other exception ends the sweep. An exception while the cases are made is raised after the
@@ -283,9 +281,8 @@ def sweep(
         begin = functools.partial(
             ExecutorPool, RemoteCopy.of(swept.kept, named, anew, swept.kind), executor, want_cut
         )
-    elif not want_cut and isinstance(made, EachClosed):
-        if is_worthwhile(count, swept.kept.open_count):
-            begin = functools.partial(ClosedArcs.begun, swept.kept, named, begin)
+    elif not want_cut and isinstance(made, Each) and made.part is not None:
+        begin = KnownValues.beginning(network, swept.kept, made.part, count, begin)
     results = _results(swept, iter(made), begin)
     return _shown(results, count if count > 0 else None) if progress else results
 

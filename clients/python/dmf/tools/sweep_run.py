@@ -13,7 +13,8 @@ from ..errors import Refused
 from ..files import read_file
 from ..network import Network
 from ..quantity import POINT
-from ..sweeps.cases import Cases, EachClosed, SweepResult, sweep
+from ..session.base import Part
+from ..sweeps.cases import Each, SweepResult, sweep
 from ..tables.sheet import cell_of, line, number_cell
 from ..text.events import case_line
 from ..text.lexical import NODE, Fault
@@ -199,13 +200,10 @@ class SweepRun:
 
     def rows(self, done: int) -> Iterator[list[str]]:
         """Yield the rows of the cases after the first `done` ones."""
-        cases = [self._named.case(numbered) for numbered in self.cases[done:]]
-        asked: Cases = cases
-        if self._is_close_each:
-            asked = EachClosed([[arc for _, arc in case] for case in cases])
+        cases = Each(self._named.case, self.cases[done:], Part.ARC if self._is_close_each else None)
         is_watched = sys.stderr is not None and sys.stderr.isatty()
         for at, result in enumerate(
-            sweep(self.network, asked, jobs=self.jobs, progress=is_watched, anew=self.anew),
+            sweep(self.network, cases, jobs=self.jobs, progress=is_watched, anew=self.anew),
             done + 1,
         ):
             yield self.row(at, result)

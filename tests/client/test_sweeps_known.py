@@ -1,0 +1,202 @@
+"""Sweeps that close each arc or shut each node, answered by the library's losses: beside networkx
+on the network without the arc or node, and beside sweeps whose cases are tried one by one."""
+
+from __future__ import annotations
+
+import os
+import subprocess
+import sys
+import time
+from collections.abc import Iterable
+from concurrent.futures import ProcessPoolExecutor
+from decimal import Decimal
+from pathlib import Path
+from random import Random
+from typing import Any
+
+import pytest
+from client_shared import ROOT, dmf, environment, interrupted_soon
+from dmf.session.library import MOST_LOST_AT_ONCE, LibrarySession
+from dmf.sweeps import known_values
+from dmf.sweeps.copies import SolvedCopy
+from packages import load
+
+networkx = load("networkx")
+pytestmark = pytest.mark.usefixtures("by_library")
+COUNT = 6
+NODES = range(COUNT)
+SOURCE, SINK = 0, COUNT - 1
+# In how many seconds a call is left.
+SOON = 0.2
+# An arc by its number, with its ends and its capacity.
+Row = tuple[int, int, int, int]
+
+
+def random_rows(random: Random) -> list[tuple[int, int, int]]:
+    """Arcs between six nodes: among them loops, parallel ones, pipes that lead both ways, and some
+    of capacity 0 or of a large one."""
+    rows: list[tuple[int, int, int]] = []
+    for _ in range(random.randrange(1, 18)):
+        tail, head = random.randrange(COUNT), random.randrange(COUNT)
+        rows.append((tail, head, random.choice([0, 1, 2, 3, 5, 9, 2**50])))
+        if random.randrange(3) == 0:
+            rows.append((head, tail, random.randrange(9)))
+    return rows
+
+
+def greatest(rows: Iterable[Row]) -> int:
+    """The greatest value from the first node to the last one, by networkx."""
+    graph = networkx.DiGraph()
+    graph.add_nodes_from(NODES)
+    for _, tail, head, room in rows:
+        so_far = graph[tail][head]["capacity"] if graph.has_edge(tail, head) else 0
+        graph.add_edge(tail, head, capacity=so_far + room)
+    return int(networkx.maximum_flow_value(graph, SOURCE, SINK))
+
+
+def told(results: Any) -> list[tuple[object, ...]]:
+    """All that results say, and the types of their numbers."""
+    return [
+        (it.case, it.value, type(it.value), it.difference, it.cut, repr(it.refusal))
+        for it in results
+    ]
+
+
+@pytest.fixture
+def untried(monkeypatch: pytest.MonkeyPatch) -> None:
+    """Has no case be tried on a copy."""
+
+    def refuse(*_: object) -> None:
+        raise AssertionError
+
+    monkeypatch.setattr(SolvedCopy, "answers", refuse)
+
+
+@pytest.mark.usefixtures("untried")
+@pytest.mark.parametrize("seed", range(300))
+def test_beside_networkx(seed: int) -> None:
+    random = Random(f"known {seed}")
+    rows = random_rows(random)
+    scale = random.choice([1, 100])
+    amounts = [Decimal(room) / scale for _, _, room in rows]
+    tails, heads = [row[0] for row in rows], [row[1] for row in rows]
+    with dmf.Network.from_arrays(
+        tails, heads, amounts, source=SOURCE, sink=SINK, nodes=NODES, scale=scale
+    ) as network:
+        for arc in random.sample(list(network.arcs), min(2, len(rows))):
+            network.close(arc)
+        network.add(random.randrange(COUNT), random.randrange(COUNT), 7)
+        value = network.solve().value * scale
+        opened = [
+            (arc.number, arc.tail, arc.head, int(arc.capacity * scale)) for arc in network.arcs
+        ]
+        assert value == greatest(opened)
+        lost = [greatest(row for row in opened if row[0] != arc[0]) for arc in opened]
+        closed: list[Any] = list(dmf.sweep(network, dmf.each_arc_closed()))
+        assert [result.value * scale for result in closed] == lost
+        assert [result.difference * scale for result in closed] == [it - value for it in lost]
+        assert [result.case[0][1].number for result in closed] == [arc[0] for arc in opened]
+        inner = [node for node in NODES if node not in (SOURCE, SINK)]
+        left = [greatest(row for row in opened if node not in row[1:3]) for node in inner]
+        shut: list[Any] = list(dmf.sweep(network, dmf.each_node_shut()))
+        assert [(result.case[0][1], result.value * scale) for result in shut] == [*zip(inner, left)]
+        assert [result.difference * scale for result in shut] == [it - value for it in left]
+
+
+@pytest.mark.parametrize("seed", range(20))
+def test_beside_cases_that_are_tried(seed: int, monkeypatch: pytest.MonkeyPatch) -> None:
+    """Also those that are refused, that shut the source, and of a network that is not solved, that
+    changes meanwhile, or that has ended; and in other processes."""
+    random = Random(f"known tried {seed}")
+    rows = [(*row, f"k{at}") for at, row in enumerate(random_rows(random))]
+    network = dmf.Network(rows, SOURCE, SINK, nodes=NODES)
+    if random.randrange(4):
+        network.solve()
+    network.close("k0")
+    if random.randrange(4):
+        network.solve()
+    keys: list[Any] = [f"k{at}" for at in range(len(rows))]
+    asked: list[Any] = [
+        *map(dmf.each_arc_closed, (None, keys, [*keys, "nothing", (0, 1)])),
+        *map(dmf.each_node_shut, (None, range(1, COUNT), [*NODES, "nothing"], [1, 1])),
+    ]
+    for cases in asked:
+        found = []
+        for share in 0, known_values.SHARE:
+            monkeypatch.setattr(known_values, "SHARE", share)
+            results = dmf.sweep(network, cases, jobs=1 + random.randrange(2))
+            network.add(SOURCE, SINK, 5)
+            found.append(told(results))
+            network.undo()
+        assert found[0] == found[1]
+    value = network.value
+    with ProcessPoolExecutor(2) as processes:
+        for cases in asked[0], asked[3]:
+            there = told(dmf.sweep(network, cases, processes))
+            assert there == told(dmf.sweep(network, cases))
+            network.end()
+            assert there == told(dmf.sweep(network, cases))
+            assert network.begin_again() == value
+    network.end()
+
+
+@pytest.mark.usefixtures("untried")
+@pytest.mark.parametrize("asked", [dmf.each_arc_closed, dmf.each_node_shut])
+def test_a_stop(asked: Any, monkeypatch: pytest.MonkeyPatch) -> None:
+    """Ctrl-C while the library looks for the losses takes effect at once, and the network is as it
+    was."""
+    look = LibrarySession._values_without
+    asked_at: list[float] = []
+    # More arcs than the losses of are found in the caller's thread.
+    chain = [(at, at + 1, 1) for at in range(MOST_LOST_AT_ONCE + 1)]
+
+    def slow(*words: Any) -> Any:
+        asked_at.append(time.monotonic())
+        time.sleep(5)
+        return look(*words)
+
+    with dmf.Network(chain, 0, len(chain)) as network:
+        assert network.solve().value == 1
+        with monkeypatch.context() as slowed:
+            slowed.setattr(LibrarySession, "_values_without", slow)
+            with pytest.raises(KeyboardInterrupt), interrupted_soon(0.5):
+                list(dmf.sweep(network, asked()))
+            assert asked_at and time.monotonic() - asked_at[0] < 0.5 + SOON
+        assert network.value == 1
+        results = list(dmf.sweep(network, asked()))
+        things = MOST_LOST_AT_ONCE + (asked is dmf.each_arc_closed)
+        assert [result.value for result in results] == [0] * things
+
+
+def ran(words: list[str], folder: Path, library: str) -> tuple[bytes, bytes]:
+    """What dmf-sweep writes about net.max, by this library."""
+    told = subprocess.run(
+        [sys.executable, f"{ROOT}/tools/dmf-sweep", "net.max", *words],
+        cwd=folder,
+        env=environment(DMF_LIBRARY=library),
+        capture_output=True,
+    )
+    assert told.returncode == 0, told.stderr
+    return told.stdout, told.stderr
+
+
+@pytest.mark.parametrize("count", [40, 600])
+def test_the_same_bytes(count: int, tmp_path: Path) -> None:
+    """dmf-sweep beside itself with each case in a file, as the program and the library try it."""
+    random, library = Random(f"bytes {count}"), os.environ["DMF_LIBRARY"]
+    ends = [(random.randint(1, 30), random.randint(2, 31)) for _ in range(count)]
+    arcs = "".join(f"a {tail} {head} {random.randrange(99)}\n" for tail, head in ends)
+    (tmp_path / "net.max").write_text(f"p max 31 {count}\nn 1 s\nn 31 t\n{arcs}")
+    (tmp_path / "cases").write_text("".join(f"close {at + 1}\n" for at in range(count)))
+    options: list[list[str]] = [["--top", "7"], ["--json"], ["--jobs", "2"], ["--anew"], []]
+    for words in options:
+        plain = ran([*words, "--cases", "cases"], tmp_path, "")
+        assert plain == ran([*words, "--close-each"], tmp_path, library)
+    assert len(plain[0].splitlines()) == count + 1
+    # An interrupted table goes on, wherever it ends.
+    ran(["--cases", "cases", "--table", "plain"], tmp_path, "")
+    whole = (tmp_path / "plain").read_bytes()
+    for place in 0, 10, len(whole) // 3, len(whole) - 30, len(whole):
+        (tmp_path / "table").write_bytes(whole[:place])
+        ran(["--close-each", "--table", "table"], tmp_path, library)
+        assert (tmp_path / "table").read_bytes() == whole
