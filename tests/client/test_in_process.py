@@ -23,6 +23,7 @@ from c_library import library_file
 from client_shared import BUILT, PIPES, dmf, environment, interrupted_soon, pipes
 from dmf.session import library as loaded
 from dmf.session import worker_threads
+from dmf.session.base import Part
 from tool_runs import wait_until_asleep
 
 SECONDS = 60
@@ -373,6 +374,9 @@ def test_want_of_memory(monkeypatch: pytest.MonkeyPatch, bound: int) -> None:
             short(patched, "close", 2)
             with pytest.raises(dmf.NoMemory, match="^no memory: <Arc 2: 'lake' to 'town'>$"):
                 network.close(("lake", "town"))
+            # Without memory for the losses, each case is tried.
+            losses: Any = loaded.load(library_file()).losses
+            patched.setitem(losses, Part.ARC, lambda *_: loaded.NO_MEMORY)
             # Each pipe closed in turn, worked by hand.
             told = [
                 it.value if it.refusal is None else type(it.refusal)
