@@ -41,6 +41,8 @@ LINES = {
     "add Mill Station +5": "'+5' changes an amount, and there is none yet",
     "add Mill Station 1 200": "this can mean several things",
     "undo 1.5": "'1.5' is not a number of steps",
+    "worst ten": "'ten' is not a number of arcs",
+    "worst places ten": "'ten' is not a number of places",
     "cap": "usage: cap ARC NUMBER",
     "undo": "nothing to undo",
     "redo": "nothing to redo",

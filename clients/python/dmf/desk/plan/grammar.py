@@ -247,12 +247,12 @@ def is_number(word: str) -> bool:
     return bool(readings(word))
 
 
-def count_of(words: list[str], command: str) -> int:
-    """Return the number of steps that a command names."""
+def count_of(words: list[str], command: str, things: str = "steps") -> int:
+    """Return the number of these things that a command names."""
     if len(words) > 1:
         raise DeskFault(f"usage: {COMMANDS[command].form}")
     if words and not (words[0].isascii() and words[0].isdigit() and len(words[0]) < LONGEST_COUNT):
-        raise DeskFault(f"{quoted_name(words[0])} is not a number of steps")
+        raise DeskFault(f"{quoted_name(words[0])} is not a number of {things}")
     return int(words[0]) if words else 1
 
 

@@ -167,7 +167,7 @@ def _places(context: Context, words: list[str]) -> None:
 def _worst(context: Context, words: list[str]) -> None:
     desk, are_places = context.desk, words[:1] == [PLACES]
     rest = words[are_places:]
-    most = count_of(rest, "worst") if rest else MOST_WORST
+    most = count_of(rest, "worst", "places" if are_places else "arcs") if rest else MOST_WORST
     if are_places:
         context.output.worst_places(desk, *worst_places(desk, most))
     else:
