@@ -90,7 +90,8 @@ def test_strangers() -> None:
         policy = sent.get("Content-Security-Policy", "")
         is_strict = (
             policy.startswith(
-                "default-src 'none'; script-src 'self'; style-src 'self'; connect-src 'self'; "
+                "default-src 'none'; script-src 'self'; style-src 'self'; img-src blob:; "
+                "connect-src 'self'; "
             )
             and "unsafe" not in policy
         )

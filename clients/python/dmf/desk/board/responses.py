@@ -165,12 +165,11 @@ def outside(why: str) -> Response:
 FOLDER = Path(__file__).parent / "page"
 PAGE_KINDS = {".html": "text/html", ".css": "text/css", ".js": "text/javascript"}
 PAGE, IMPORT_PAGE = "index.html", "import.html"
-# What the page may do: run its own scripts, have its own style, and ask this server. Text
-# about a network has a content type that is not a script's.
+# What the page may do: run its own scripts, have its own style, draw a picture that it made
+# itself, and ask this server. Text about a network has a content type that is not a script's.
 POLICY = (
-    "default-src 'none'; script-src 'self'; style-src 'self'; connect-src 'self'; base-uri 'none'; "
-    "form-action 'none'; "
-    "frame-ancestors 'none'"
+    "default-src 'none'; script-src 'self'; style-src 'self'; img-src blob:; connect-src 'self'; "
+    "base-uri 'none'; form-action 'none'; frame-ancestors 'none'"
 )
 
 

@@ -42,6 +42,16 @@ export function paint() {
   if (canvas.width !== wide || canvas.height !== high) Object.assign(canvas, { width: wide, height: high });
   pen.resetTransform();
   pen.clearRect(0, 0, wide, high);
+  paintOn(pen, box, by);
+}
+
+/**
+ * Paints a part of the picture.
+ * @param {CanvasRenderingContext2D} pen
+ * @param {Box} box
+ * @param {number} by how many pixels of the canvas are one of the page
+ */
+export function paintOn(pen, box, by) {
   pen.setTransform(scale() * by, 0, 0, scale() * by, -box.x * scale() * by, -box.y * scale() * by);
   const seen = ground.lines.filter((line) => isIn(box, line)), colour = colours();
   if (isFar()) shadeBefore(pen, colour("side"));
