@@ -201,7 +201,12 @@ def test_sheets(tmp_path: Path) -> None:
         assert view["file"]["kind"] == "a workbook"
         assert view["question"]["option"] == "sheet"
         assert view["question"]["choices"] == [["North", ""], ["South", ""]]
+        assert view["contents"] == [
+            {"name": name, "count": None, "said": "from, to, capacity"}
+            for name in ("North", "South")
+        ]
         view = said(it, sheet="South")
+        assert view["contents"][1]["said"] == "is read: from, to, capacity"
         assert view["answer"]["said"] == "7 can be sent from Res to Town"
         assert view["command"] == "dmf board 'net.xlsx#South'"
         assert "encoding" not in [setting["option"] for setting in view["settings"]]
@@ -233,6 +238,11 @@ def test_velocity(tmp_path: Path) -> None:
             "velocity",
             "1.5",
         )
+        found = {it["name"]: (it["count"], it["said"]) for it in view["contents"]}
+        assert [*found] == ["[JUNCTIONS]", "[RESERVOIRS]", "[TANKS]", "[PIPES]"]
+        assert [count for count, _ in found.values()] == [1, 1, 1, 2]
+        wide = "capacity in LPS, from the diameter (mm) at "
+        assert found["[PIPES]"][1] == f"{wide}the velocity that --velocity gives"
         question = said(it, velocity="1.5")["question"]
         assert (question["option"], [word for word, _ in question["choices"]]) == (
             "tanks",
@@ -241,6 +251,9 @@ def test_velocity(tmp_path: Path) -> None:
         for tanks, value in ("none", "47.124"), ("source", "58.905"):
             view = said(it, velocity="1.5", tanks=tanks)
             assert view["answer"]["said"].startswith(f"{value} "), view["answer"]
+        now = {it["name"]: it["said"] for it in view["contents"]}
+        assert now["[PIPES]"] == f"{wide}1.5 m/s" and now["[TANKS]"] == "supply without a limit"
+        assert view["preview"]["rows"][1][:4] == ["Lake", "Town", "47.124", "P1"]
         shown = [setting["option"] for setting in view["settings"]]
         assert {"velocity", "tanks"} <= {*shown} and "tolerance" not in shown
         assert "--velocity 1.5 --tanks source" in view["command"]

@@ -443,3 +443,23 @@ def test_generated(tmp_path: Path, seed: int) -> None:
         return
     with network:
         assert network.solve().value == Decimal(value) / 1000
+
+
+@pytest.mark.parametrize(
+    "name, data, what",
+    [
+        ("net.rpt", b"  Page 1\r\n  *    E P A N E T    *\r\n", "the report of a run of EPANET"),
+        # 516114521, with which such a file begins.
+        (
+            "net.out",
+            (516114521).to_bytes(4, "little") + bytes(40),
+            "the results of a run of EPANET",
+        ),
+    ],
+)
+def test_other_files(tmp_path: Path, name: str, data: bytes, what: str) -> None:
+    """What EPANET writes beside a network names the file that is needed."""
+    (tmp_path / name).write_bytes(data)
+    with pytest.raises(dmf.TableFault) as caught:
+        dmf.read_table(tmp_path / name)
+    assert str(caught.value) == f"{tmp_path / name}: it is {what}; give the .inp"

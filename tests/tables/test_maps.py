@@ -100,6 +100,16 @@ def test_lines(tmp_path: Path, name: str) -> None:
         assert [it.key for it in network.arcs][0] in ("P1", "Rohr P1 ä")
 
 
+def test_one_line(tmp_path: Path) -> None:
+    """Many programs write all features in one line of the file; each is a row of its own."""
+    path = geojson(tmp_path / "t.geojson")
+    path.write_text(" ".join(path.read_text().split("\n")))
+    with dmf.read_table(path, source="0,0", sink="10,10") as network:
+        assert [(arc.tail, arc.head) for arc in network.arcs] == ENDS
+        assert [arc.key for arc in network.arcs] == [name for name, _, _ in LINES]
+        assert network.solve().value == 40
+
+
 def test_a_map_for_the_page(tmp_path: Path) -> None:
     """The page puts the places where the map has them."""
     from dmf.tables.loader import TableOptions, load_tables

@@ -8,7 +8,7 @@ import threading
 from array import array
 from collections.abc import Iterable, Sequence
 from dataclasses import dataclass, field
-from typing import NamedTuple
+from typing import TYPE_CHECKING, NamedTuple
 
 from ..errors import Error, FlowIsNotGreatest
 from ..session.base import Part, Program, Solved, ValuesWithout, problem_pieces
@@ -16,6 +16,9 @@ from ..session.fresh import CUT, solved
 from ..session.runners import program_of
 from ..tables.loader import LoadedProblem
 from .live_network import LiveNetwork
+
+if TYPE_CHECKING:
+    import subprocess
 
 # The least number of arcs of a network whose flows may come later than its value.
 LARGE = 100_001
@@ -29,6 +32,8 @@ class FirstAnswer:
         self._problem = problem
         self._program = program
         self._found: Solved | None = None
+        self._lock, self._is_ended = threading.Lock(), False
+        self._process: subprocess.Popen[bytes] | None = None
         self._thread = threading.Thread(target=self._find, daemon=True)
         self._thread.start()
 
@@ -43,7 +48,20 @@ class FirstAnswer:
     def _find(self) -> None:
         # If this fails, the caller that needs the answer solves, and reports what is wrong.
         with contextlib.suppress(Error, OSError):
-            self._found = solved(self._problem, CUT, program_of(self._program))
+            self._found = solved(self._problem, CUT, program_of(self._program), self._begun)
+
+    def _begun(self, process: subprocess.Popen[bytes]) -> None:
+        with self._lock:
+            self._process = process
+            if self._is_ended:
+                process.kill()
+
+    def end(self) -> None:
+        """Kill the program, so that nobody waits for it any more. There is no answer then."""
+        with self._lock:
+            self._is_ended = True
+            if self._process:
+                self._process.kill()
 
     def wait(self) -> Solved | None:
         """Return the answer, or None if there is none."""

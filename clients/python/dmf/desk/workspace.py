@@ -48,6 +48,9 @@ class Desk:
     may_follow
         Whether the first solve of a large network may find the value and the limit alone; then
         `follow`, or a call that needs them, finds the flows.
+    running
+        What has the networks of the desk, for a caller whose other threads may end them before the
+        desk is made.
     """
 
     keeper: Keeper | None = None
@@ -59,9 +62,11 @@ class Desk:
         with_solve: bool = False,
         may_follow: bool = False,
         program: Program = None,
+        running: RunningNetworks | None = None,
     ) -> None:
+        self._running = running or RunningNetworks(program)
         first = FirstAnswer.of(subject, program) if with_solve and may_follow else None
-        self._running = RunningNetworks(program)
+        self._running.first = first
         network = self._running.begin(subject)
         self.with_solve = with_solve
         # The network of the desk for which this one tries something out, if it does.
@@ -69,6 +74,7 @@ class Desk:
         self.state = DeskState(network)
         if with_solve:
             found = first.wait() if first else None
+            self._running.first = None
             answers = Answers(found.side, found.value) if found else Answers()
             solve = "solve", (Solve(),)
             steps = (network.promise(found.value),) if found else network.extend((), *solve)

@@ -18,20 +18,22 @@ from typing import Optional
 from ..errors import TableFault
 from ..quantity import plain_text
 from ..text.spelling import MOST_TOLD, near, quoted_name
-from .epanet_sections import TIMED, Line, sections_of
+from .epanet_sections import NAMES, TIMED, Line, sections_of
 from .pipe_capacity import FLOW_UNITS, FlowUnit, capacity_of
 from .setting_question import SettingQuestion, velocity_question
 from .sheet import Exact, Faults, Positions, Rows, Sheet, cell_of
-from .table_file import TableFile
+from .table_file import Content, TableFile
 from .text_bytes import text_of
 
 # Valves that let nothing back.
 ONE_WAY_VALVES = {"PRV", "PSV", "FCV"}
+_ONE_WAY = ", ".join(sorted(ONE_WAY_VALVES))
 VALVES = ONE_WAY_VALVES | {"PBV", "TCV", "GPV", "PCV"}
 OPEN, CLOSED, CHECK = "OPEN", "CLOSED", "CV"
 ARC_TITLES = ["from", "to", "capacity", "name", "status", "direction", "kind", "length", "diameter"]
 PLACE_TITLES = ["place", "supply", "demand"]
 UNLIMITED = "unlimited"
+_TANKS = {"source": "supply without a limit", "none": "only let water through"}
 _NUMBER = re.compile(r"[+-]?(?:[0-9]+\.?[0-9]*|\.[0-9]+)(?:[eE][+-]?[0-9]{1,3})?")
 
 
@@ -75,6 +77,16 @@ def sheets_of(file: TableFile) -> list[Sheet]:
     return _Network(file, sections_of(text, Faults(file.path)), notes).sheets()
 
 
+def contents_of(file: TableFile, sheets: Sequence[Sheet], arcs: Optional[Sheet]) -> list[Content]:
+    """Return the sections of a network of EPANET that are read, each with the number of its lines
+    and what these are read for; nothing if they have a fault."""
+    try:
+        text, notes = text_of(file.data, file.encoding)
+        return _Network(file, sections_of(text, Faults(file.path)), notes).contents()
+    except TableFault:
+        return []
+
+
 class _Network:
     """A reader that turns the sections into links and nodes, and these into sheets."""
 
@@ -107,6 +119,27 @@ class _Network:
         if len(places) > 1:
             found.append(Sheet(path, partial(_read, places), gives_way=True))
         return found
+
+    def contents(self) -> list[Content]:
+        """Return the sections that have lines, and what these are read for."""
+        reading, unit = self.file.reading, self.unit
+        velocity = reading.velocity
+        at = f"{plain_text(velocity)} m/s" if velocity else "the velocity that --velocity gives"
+        capacity = f"capacity in {unit.name}, from the diameter ({unit.diameters}) at {at}"
+        said = {
+            "JUNC": "places; the base demand is what they take",
+            "RESE": "supply without a limit",
+            "TANK": _TANKS.get(reading.tanks, "supply water or let it through, as --tanks says"),
+            "PIPE": capacity,
+            "PUMP": "lead one way, without a limit",
+            "VALV": f"{capacity}; FCV at most its setting; {_ONE_WAY} lead one way",
+            "DEMA": f"in place of the demands in {NAMES['JUNC']}",
+            "STAT": "what is open, closed or set",
+            "COOR": "where places lie in the picture",
+            **dict.fromkeys(TIMED, "open and close links in time, and are left out"),
+        }
+        found = [(name, len(self._lines(name)), what) for name, what in said.items()]
+        return [Content(NAMES[name], count, what) for name, count, what in found if count]
 
     def _lines(self, name: str) -> list[Line]:
         return self.sections.get(name, [])

@@ -9,9 +9,15 @@ from ..text.spelling import quoted_name
 from .sheet import Faults
 from .table_file import TableFile
 
-# The sections that are read, by how their names begin, as EPANET compares them; the ones that
-# change states in time; and the others, which are read for nothing.
-READ = ("JUNC", "RESE", "TANK", "PIPE", "PUMP", "VALV", "DEMA", "STAT", "COOR", "OPTI")
+# The names of sections, by how they begin, as EPANET compares them; of these the ones that change
+# states in time; and those of the other sections, which are read for nothing.
+NAMES = {
+    name[:4]: f"[{name}]"
+    for name in (
+        "JUNCTIONS RESERVOIRS TANKS PIPES PUMPS VALVES DEMANDS STATUS COORDINATES OPTIONS CONTROLS"
+        " RULES"
+    ).split()
+}
 TIMED = {"CONT": "[CONTROLS]", "RULE": "[RULES]"}
 PASSED = (
     "TITL EMIT CURV PATT ENER QUAL SOUR REAC MIXI TIME REPO VERT LABE BACK TAGS END ROUG LEAK"
@@ -48,7 +54,7 @@ def sections_of(text: str, faults: Faults) -> dict[str, list[Line]]:
             continue
         if words[0].startswith("["):
             name = words[0][1:5].upper().rstrip("]")
-            if name not in (*READ, *TIMED, *PASSED):
+            if name not in (*NAMES, *PASSED):
                 faults.add(f"EPANET has no section {quoted_name(words[0])}", number)
             current = sections.setdefault(name, [])
             if name == "END":

@@ -2,13 +2,22 @@
 
 from __future__ import annotations
 
-from collections.abc import Callable
-from typing import NamedTuple
+from collections.abc import Callable, Sequence
+from typing import NamedTuple, Optional
 
 from ..errors import TableFault
-from . import csv_file, epanet, epanet_sections, geojson, graph_files, shapefiles, workbook
+from . import (
+    contents,
+    csv_file,
+    epanet,
+    epanet_sections,
+    geojson,
+    graph_files,
+    shapefiles,
+    workbook,
+)
 from .sheet import Sheet
-from .table_file import TableFile
+from .table_file import Content, TableFile
 
 
 class Package(NamedTuple):
@@ -21,7 +30,8 @@ class Package(NamedTuple):
 class FileKind(NamedTuple):
     """A kind of file: what messages call it, the endings of such files, whether a file is one, what
     reads it, and the package that this needs, with what to do without. `settings` are the options
-    that no other kind reads."""
+    that no other kind reads. `contents` returns the parts of a file, given its sheets, as far as
+    they could be read, and the sheet of the arcs, if that is known."""
 
     what: str
     endings: tuple[str, ...]
@@ -30,6 +40,7 @@ class FileKind(NamedTuple):
     package: Package = Package("", "")
     instead: str = ""
     settings: tuple[str, ...] = ()
+    contents: Callable[[TableFile, Sequence[Sheet], Optional[Sheet]], list[Content]] = contents.none
 
 
 CSV = FileKind("a CSV file", (".csv", ".tsv"), lambda file: True, csv_file.sheets_of)
@@ -41,8 +52,15 @@ KINDS = [
         epanet_sections.is_one,
         epanet.sheets_of,
         settings=("velocity", "tanks"),
+        contents=epanet.contents_of,
     ),
-    FileKind("a GeoJSON file", (".geojson",), geojson.is_one, geojson.sheets_of),
+    FileKind(
+        "a GeoJSON file",
+        (".geojson",),
+        geojson.is_one,
+        geojson.sheets_of,
+        contents=contents.of_map,
+    ),
     FileKind(
         "a shapefile",
         (".shp", ".dbf"),
@@ -50,6 +68,7 @@ KINDS = [
         shapefiles.sheets_of,
         Package("pyshp", "python3-pyshp"),
         "export the layer as GeoJSON",
+        contents=contents.of_map,
     ),
     FileKind(
         "a GraphML file or an edge list",
@@ -66,6 +85,7 @@ KINDS = [
         workbook.sheets_of,
         Package("odfpy", "python3-odf"),
         "save the sheet as CSV",
+        contents=contents.of_sheets,
     ),
     CSV,
 ]

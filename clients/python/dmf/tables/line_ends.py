@@ -12,7 +12,7 @@ from collections.abc import Iterator, Sequence
 from dataclasses import dataclass, field, replace
 from decimal import Decimal
 from functools import partial
-from typing import NamedTuple, Optional
+from typing import Optional
 
 from ..errors import TableFault
 from ..quantity import plain_text
@@ -92,12 +92,12 @@ def lines_of(sheet: Sheet, reading: ReadOptions) -> Sheet:
     rows = list(_lines(sheet, found, faults))
     faults.judge()
     places = _Places(reading.tolerance)
-    ends = {row.line: [places.add(end) for end in row.ends] for row in rows}
+    # Several rows may stand in one line of a file of GeoJSON.
+    ends = [[places.add(end) for end in both] for both in rows]
     named_places = places.names()
-    cells = {
-        line: [cell_of(named_places[end], is_raw=reading.raw_names) for end in both]
-        for line, both in ends.items()
-    }
+    cells = [
+        [cell_of(named_places[end], is_raw=reading.raw_names) for end in both] for both in ends
+    ]
     is_globe = sheet.positions is not None and sheet.positions.is_globe
     spots = {name: places.spot(at) for at, name in named_places.items()}
     notes = (*sheet.notes, *places.told(2 * len(rows)))
@@ -125,30 +125,31 @@ def _found(sheet: Sheet) -> Optional[_Geometry]:
     return None
 
 
-class _Line(NamedTuple):
-    line: int
-    ends: tuple[Point, Point]
+def _has_line(line: int, row: list[str], found: _Geometry) -> bool:
+    """Return True if a row has a line on a map, or a fault."""
+    return line > found.line and not is_blank(row)
 
 
-def _lines(sheet: Sheet, found: _Geometry, faults: Faults) -> Iterator[_Line]:
+def _lines(sheet: Sheet, found: _Geometry, faults: Faults) -> Iterator[tuple[Point, Point]]:
+    """Yield the ends of the line of each row that has one."""
     for rows in sheet.read():
         for line, row in zip(*rows):
-            if line <= found.line or is_blank(row):
+            if not _has_line(line, row, found):
                 continue
             cell = row[found.column] if found.column < len(row) else ""
             try:
-                yield _Line(line, ends_of(cell))
+                yield ends_of(cell)
             except LineFault as fault:
                 faults.add(f"the geometry {fault}", line, found.column + 1)
 
 
-def _with_ends(sheet: Sheet, found: _Geometry, ends: dict[int, list[str]]) -> Iterator[Rows]:
+def _with_ends(sheet: Sheet, found: _Geometry, ends: list[list[str]]) -> Iterator[Rows]:
     """Yield the rows, with two columns more at the end."""
-    width = len(found.titles)
+    width, following = len(found.titles), iter(ends)
     for rows in sheet.read():
         lines, cells = [], []
         for line, row in zip(*rows):
-            more = ends.get(line, [])
+            more = next(following) if _has_line(line, row, found) else []
             if line == found.line:
                 more = [START_OF_LINE, END_OF_LINE]
             lines.append(line)

@@ -93,10 +93,11 @@ def data_of(path: Optional[str]) -> bytes:
 
 @dataclass
 class Stages:
-    """What was found in a file so far, also if its reading fails then: the kind of the file, its
+    """What was found in a file so far, also if its reading fails then: the file, its kind, its
     sheets, the sheet of the arcs, their table, and the plan. `watch` is called with the line up to
     which the arcs are read, again and again, and with 0 at the end."""
 
+    file: Optional[TableFile] = None
     kind: Optional[FileKind] = None
     sheets: Sequence[Sheet] = ()
     sheet: Optional[Sheet] = None
@@ -114,7 +115,7 @@ def load_tables(
     told, name = split_path(path or "")
     file = TableFile(data, told, wanted.encoding, wanted.reading, 3, wanted.read)
     with naming(told):
-        stages.kind = kind_of(file)
+        stages.file, stages.kind = file, kind_of(file)
         refuse_settings(file)
         stages.sheets = sheets_of(file)
         stages.sheet, others = _arcs_sheet(file, stages.sheets, name)

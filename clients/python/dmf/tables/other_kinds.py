@@ -42,6 +42,11 @@ SISTERS = {
     ".qix": "an index of a shapefile (.qix)",
     ".qpj": "the projection of a shapefile (.qpj)",
 }
+# What EPANET writes beside a network, by what it has among its first bytes.
+RESULTS = {
+    b"YH\xc3\x1e": "the results of a run of EPANET",
+    b"E P A N E T": "the report of a run of EPANET",
+}
 PROBLEMS = {
     b"max": "a max-flow problem",
     b"min": "a min-cost problem",
@@ -71,8 +76,18 @@ def refuse_other_kinds(data: bytes, path: str) -> None:
         )
     if sister := SISTERS.get(os.path.splitext(path)[1].lower()):
         raise TableFault(f"it is {sister}; give the .shp")
+    head = data[:2048]
+    if what := next((what for mark, what in RESULTS.items() if mark in head), ""):
+        raise TableFault(f"it is {what}; give the .inp")
     if what := _other_kind(data):
         raise TableFault(f"it is {what}; {WANTED}")
+
+
+def is_part_of(path: str, shapes: str) -> bool:
+    """Return True if by their names one file is a part of the shapefile whose .shp is the other."""
+    (stem, ending), (other, of_shapes) = os.path.splitext(path), os.path.splitext(shapes)
+    is_part = ending.lower() == ".dbf" or ending.lower() in SISTERS
+    return is_part and stem == other and of_shapes.lower() == ".shp"
 
 
 def markup_of(data: bytes) -> str:

@@ -61,3 +61,13 @@ class TableFile:
         return next(
             (path for it in (ending, ending.upper()) if os.path.isfile(path := stem + it)), ""
         )
+
+
+@dataclass(frozen=True)
+class Content:
+    """A part of a file, such as a section or a sheet: its name, how many lines it has, if that is
+    known, and what it is read for."""
+
+    name: str
+    count: Optional[int]
+    said: str

@@ -37,13 +37,14 @@ PROBLEM = "a problem file"
 @dataclass
 class Reading:
     """What a file and the words about it have come to: the stages of its reading; the problem and
-    its desk, or why there is none."""
+    its desk, or why there is none, such as that it was stopped."""
 
     words: argparse.Namespace
     stages: Stages = field(default_factory=Stages)
     subject: Optional[LoadedProblem] = None
     desk: Optional[Desk] = None
     fault: Optional[BaseException] = None
+    is_stopped: bool = False
 
     @property
     def kind(self) -> str:
@@ -61,7 +62,9 @@ def import_view(reading: Reading, told: Sequence[str]) -> Json:
     notes = reading.subject.notes if reading.subject else plan.notes if plan else ()
     return {
         "file": file_view(reading),
+        "is_stopped": reading.is_stopped,
         "settings": settings_view(reading, shown),
+        "contents": contents_view(stages),
         "preview": preview_view(shown),
         "columns": [
             {
@@ -88,6 +91,14 @@ def file_view(reading: Reading) -> Json:
     folder, name = os.path.split(path)
     size = os.path.getsize(path) if os.path.isfile(path) else 0
     return {"name": name, "folder": folder, "kind": reading.kind, "bytes": size}
+
+
+def contents_view(stages: Stages) -> list[Json]:
+    """Return the parts of the file, each with what it is read for."""
+    if stages.file is None or stages.kind is None:
+        return []
+    parts = stages.kind.contents(stages.file, stages.sheets, stages.sheet)
+    return [{"name": it.name, "count": it.count, "said": it.said} for it in parts]
 
 
 def preview_view(shown: Preview) -> Json:

@@ -15,6 +15,8 @@ from typing import NamedTuple, Optional
 
 from ...errors import OptionFault
 from ...tables.loader import PLACE_TABLES, Stages, read_subject, split_path
+from ...tables.other_kinds import is_part_of
+from ..running_networks import RunningNetworks
 from ..steps import DeskFault, unforeseen
 from ..workspace import Desk, without_collection
 from .import_options import (
@@ -36,9 +38,11 @@ from .responses import (
     judge_fields,
     judge_words,
 )
+from .stopping import Stoppable, Stopped
 from .uploads import keep_upload
 
 NO_TABLE = {"error": "no table is open"}
+STOPPED = "the reading was stopped"
 
 
 class ImportTool(NamedTuple):
@@ -68,6 +72,7 @@ class TableImport:
         # What the view was made of, and the view.
         self._seen: object = None
         self._view: Json = {}
+        self._work = Stoppable()
         self.successor: Answering = self
         # Turns of an import are below those of a desk, so that pages are told when one is opened.
         self.turn = 1
@@ -90,6 +95,9 @@ class TableImport:
             if set(content) != {"options"}:
                 raise WrongForm(f"expected the field options, got {sorted(content)}")
             self._said = judge_options(content["options"])
+            if self._reading and self._reading.is_stopped:
+                # It is read again when somebody asks for it.
+                self._seen = None
             return self._viewed()
         if path != "open":
             return answer(NO_TABLE, 409)
@@ -97,16 +105,19 @@ class TableImport:
         return self._judged(self._open)
 
     def upload(self, words: dict[str, str], data: bytes) -> Response:
-        """Keep a file in the folder, and import it."""
-        judge_words(words, ("name",))
-        return self._judged(lambda: self._take(words["name"], data))
+        """Keep a file in the folder, and import it. One that is a part `of` another file is kept
+        alone."""
+        judge_words(words, ("name",), ("of",))
+        return self._judged(lambda: self._take(words["name"], data, is_part="of" in words))
 
     def stop(self) -> Response:
-        """Do nothing: a reading is not stopped."""
+        """Stop the reading, for another thread that does it."""
+        self._work.stop()
         return answer({})
 
     def end(self) -> None:
-        """Do nothing: nothing goes on beside the requests."""
+        """End the reading, if one goes on."""
+        self._work.stop()
 
     def _judged(self, make: Callable[[], Response]) -> Response:
         """Return the answer, or why there is none."""
@@ -115,9 +126,14 @@ class TableImport:
         except Exception as error:
             return answer({"error": unforeseen(error)}, 409)
 
-    def _take(self, name: str, data: bytes) -> Response:
+    def _take(self, name: str, data: bytes, *, is_part: bool) -> Response:
         keep_upload(self._folder, name, data)
-        self._path, self._said, self._others, self._tables = name, nothing_said(), [], []
+        if is_part:
+            return answer({})
+        if not is_part_of(name, self._path):
+            self._path, self._said, self._others, self._tables = name, nothing_said(), [], []
+        # Also the file that was read may be read otherwise now, as a shapefile with another part.
+        self._seen = None
         return self._viewed()
 
     def _open(self) -> Response:
@@ -170,32 +186,41 @@ class TableImport:
             self._forget()
             # What was found before is shown on, if it was of this file.
             if before is None or split_path(before.words.path)[0] != self._path:
-                before = _read_words(self._tool.read(arguments(self._path, nothing_said())))
+                before = self._read_words(self._tool.read(arguments(self._path, nothing_said())))
                 _end(before)
             self._reading = replace(before, desk=None, fault=None)
             return str(fault)
         self._forget()
-        self._reading = _read_words(words)
-        return ""
+        self._reading = self._read_words(words)
+        return STOPPED if self._reading.is_stopped else ""
+
+    def _read_words(self, words: argparse.Namespace) -> Reading:
+        """Return what the file and the options of these words come to. Nobody is asked."""
+        words.ask = None
+        reading, running = Reading(words, Stages()), RunningNetworks()
+
+        def read() -> None:
+            reading.subject = read_subject(words, stages=reading.stages)
+            reading.desk = Desk(
+                reading.subject, with_solve=True, may_follow=not words.keep, running=running
+            )
+
+        try:
+            with without_collection():
+                self._work.run(read, lambda: running.break_off(STOPPED))
+        except Stopped:
+            _end(reading)
+            running.break_off(STOPPED)
+            return Reading(words, Stages(kind=reading.stages.kind), is_stopped=True)
+        except Exception as error:
+            reading.fault = error
+        return reading
 
     def _forget(self) -> None:
         """End the desk of the present reading."""
         if self._reading:
             _end(self._reading)
         self._reading, self._seen = None, None
-
-
-def _read_words(words: argparse.Namespace) -> Reading:
-    """Return what the file and the options of these words come to. Nobody is asked."""
-    words.ask = None
-    reading = Reading(words, Stages())
-    try:
-        with without_collection():
-            reading.subject = read_subject(words, stages=reading.stages)
-            reading.desk = Desk(reading.subject, with_solve=True, may_follow=not words.keep)
-    except Exception as error:
-        reading.fault = error
-    return reading
 
 
 def _end(reading: Reading) -> None:
@@ -216,7 +241,9 @@ def _signature(path: str) -> object:
 # The view while there is no file.
 NOTHING_READ: Json = {
     "file": None,
+    "is_stopped": False,
     "settings": [],
+    "contents": [],
     "preview": {"rows": [], "lines": [], "header": None, "left_out": []},
     "columns": [],
     "roles": [],

@@ -1,5 +1,6 @@
 /** The page of an import: which part of it shows what. */
 import { beginAnswer, showAnswer } from "./import_answer.js";
+import { showContents } from "./import_contents.js";
 import { beginEnds, showEnds } from "./import_ends.js";
 import { beginFile, showFile } from "./import_file.js";
 import { showPreview } from "./import_preview.js";
@@ -7,7 +8,7 @@ import { showSettings } from "./import_settings.js";
 import { begin, watch } from "./import_state.js";
 import { beginTold, showTold } from "./import_told.js";
 
-for (const watcher of [showFile, showAnswer, showPreview, showEnds, showSettings, showTold]) watch(watcher);
+for (const watcher of [showFile, showAnswer, showContents, showPreview, showEnds, showSettings, showTold]) watch(watcher);
 beginAnswer();
 beginFile();
 beginEnds();

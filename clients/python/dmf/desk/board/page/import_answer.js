@@ -5,7 +5,7 @@
  */
 import { at, button, form, make, onClick, replace } from "./elements.js";
 import { placed, remedies } from "./import_faults.js";
-import { change, open, present, theOptions } from "./import_state.js";
+import { change, open, present, readAgain, theOptions } from "./import_state.js";
 import { grouped, sentence } from "./words.js";
 
 /** What is asked and offered now, as text. */
@@ -45,12 +45,13 @@ function headline(view) {
  * @param {View} view
  */
 function showQuestion(view) {
-  const { question, settings } = view, offered = question ? [] : remedies(view), now = JSON.stringify([question, offered]);
-  at("question").hidden = !question && !offered.length;
+  const { question, settings, is_stopped: isStopped } = view, offered = question ? [] : remedies(view);
+  const now = JSON.stringify([question, offered, isStopped]), again = isStopped ? [button("Read it again", readAgain, "plain choice")] : [];
+  at("question").hidden = !question && !offered.length && !isStopped;
   if (now === asked) return;
   asked = now;
   const choices = (question?.choices ?? []).map(([word, what]) => choice(question?.option ?? "", word, what));
-  at("choices").replaceChildren(...choices, ...offered.flatMap(remedy));
+  at("choices").replaceChildren(...choices, ...again, ...offered.flatMap(remedy));
   const setting = settings.find((it) => it.option === question?.option);
   const isTyped = question && (!question.choices.length || setting && !setting.choices?.length);
   at("typed").replaceChildren(...(isTyped ? [typed(question, setting?.label ?? question.option)] : []));

@@ -8,6 +8,8 @@ import { trouble } from "./messages.js";
 import { isShut } from "./shutting.js";
 import { grouped } from "./words.js";
 
+/** How the names of the other files of a shapefile end. */
+const PART = /\.(dbf|shx|prj|cpg|sbn|sbx|qix|qpj)$/i;
 const MEGABYTE = 2 ** 20, MOST_MEGABYTES = 256;
 
 /**
@@ -34,19 +36,23 @@ function sizeOf(bytes) {
 const stemOf = (file) => file.name.replace(/\.[^.]*$/, "");
 
 /**
- * Sends the files that were chosen. Several of one name are a shapefile, of which the lines are read.
+ * Sends the files that were chosen. Several are those of a shapefile, of which the lines are read.
  * @param {File[]} files
  */
 function take(files) {
   if (!files.length || isShut()) return;
   const large = files.find((file) => file.size > MOST_MEGABYTES * MEGABYTE);
+  const parts = files.filter((file) => PART.test(file.name)), [lines, ...more] = files.filter((file) => !parts.includes(file));
   if (large) {
     trouble(`${large.name} has ${sizeOf(large.size)}, and at most ${MOST_MEGABYTES} MB are read.`);
-  } else if (files.some((file) => stemOf(file) !== stemOf(files[0]))) {
+  } else if (files.length === 1) {
+    upload(files);
+  } else if (more.length || files.some((file) => stemOf(file) !== stemOf(files[0])) || lines && !/\.shp$/i.test(lines.name)) {
     trouble("These are several files: choose the one with the pipes, roads or lines. Only the files of a shapefile go together.");
+  } else if (!lines) {
+    trouble(`These are parts of a shapefile. Give its lines with them: ${stemOf(files[0])}.shp.`);
   } else {
-    const isLines = (/** @type {File} */ file) => Number(/\.shp$/i.test(file.name));
-    upload([...files].sort((one, other) => isLines(one) - isLines(other)));
+    upload([...parts, lines]);
   }
 }
 

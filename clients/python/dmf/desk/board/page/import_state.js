@@ -7,12 +7,14 @@
  * @typedef {{ text: string, option: string, choices: [string, string][] }} Question
  * @typedef {{ text: string, line?: number, column?: number }} Fault
  * @typedef {{ source: string[], sink: string[], assumed: string[] }} Ends
- * @typedef {{ file: { name: string, folder: string, kind: string, bytes: number } | null, options: Options, settings: Setting[],
- *   preview: Preview | null, columns: Column[], roles: [string, string][], told: string[], question: Question | null, faults: Fault[],
- *   more_faults: number, places: string[], ends: Ends, answer: { said: string, rows: number } | null, command: string, turn: number }} View
+ * @typedef {{ name: string, count: number | null, said: string }} Content
+ * @typedef {{ file: { name: string, folder: string, kind: string, bytes: number } | null, is_stopped: boolean, options: Options,
+ *   settings: Setting[], contents: Content[], preview: Preview | null, columns: Column[], roles: [string, string][], told: string[],
+ *   question: Question | null, faults: Fault[], more_faults: number, places: string[], ends: Ends,
+ *   answer: { said: string, rows: number } | null, command: string, turn: number }} View
  */
 import { heard } from "./asking.js";
-import { at, button } from "./elements.js";
+import { at, button, onClick } from "./elements.js";
 import { heedLeaving, live } from "./live.js";
 import { news, patiently, trouble } from "./messages.js";
 import { isShut, openControls, shutControls } from "./shutting.js";
@@ -83,14 +85,18 @@ async function send() {
   await hear("import", { options });
 }
 
+/** Sends the options once more, so that what was stopped is read again. */
+export const readAgain = () => change({});
+
 /**
  * Sends files, of which the last one is read and the others belong to it.
  * @param {File[]} files
  */
 export const upload = (files) => inTurn(async () => {
+  const main = files[files.length - 1], of = `&of=${encodeURIComponent(main.name)}`;
   for (const file of files) {
     news(`Reading ${file.name} ..`);
-    const isHeard = await hear(`upload?name=${encodeURIComponent(file.name)}`, file, file !== files[files.length - 1]);
+    const isHeard = await hear(`upload?name=${encodeURIComponent(file.name)}${file === main ? "" : of}`, file, file !== main);
     news("");
     if (!isHeard) return;
   }
@@ -186,4 +192,8 @@ let letGo = follow();
 heedLeaving();
 
 /** Shows the page for the first time. */
-export const begin = renew;
+export function begin() {
+  // Requests are made one after another, and this one stops the one that is waited for.
+  onClick("end", () => heard("stop", {}));
+  return renew();
+}
