@@ -61,7 +61,8 @@ def taken(page: Page, folder: Path) -> tuple[Any, Any]:
     twice = pixels(file.read_bytes())
     high, wide, _ = twice.shape
     found = twice.reshape(high // 2, 2, wide // 2, 2, 3).mean(axis=(1, 3))
-    left, top, right, bottom = map(round, page.driver.execute_async_script(FREE))
+    edges = page.driver.execute_async_script(FREE)
+    left, top, right, bottom = (round(float(edge)) for edge in edges)
     assert (high // 2, wide // 2) == (bottom - top, right - left)
     seen = pixels(page.driver.find_element("id", "picture").screenshot_as_png)
     return found, seen[top:bottom, left:right]
