@@ -372,8 +372,8 @@ def text_of(lines: Lines, random: Random, comment: bytes, fault_share: float) ->
 
 
 def words_of(command: bytes, random: Random) -> tuple[bytes, ...]:
-    """Words that ask for this, with or without a cut, brief replies, any greatest flow, nodes and a
-    bound of the history; some of them are faulty."""
+    """Words that ask for this, with or without a cut, brief replies, any greatest flow, nodes, a
+    number of the worst and a bound of the history; some of them are faulty."""
     solves = command in (b"solve", b"session")
     path = (
         [random.choices([PROBLEM, b"missing.max", b"folder"], [98, 1, 1])[0]]
@@ -389,7 +389,12 @@ def words_of(command: bytes, random: Random) -> tuple[bytes, ...]:
     brief = [b"--brief"] * random.randrange(2) if solves else []
     any_flow = [b"--any"] * random.randrange(2) if command == b"solve" else []
     nodes = [b"--nodes"] * random.randrange(2) if command == b"vital" else []
-    parts = [[word] for word in cut + brief + any_flow + nodes + path] + bound
+    worst = (
+        [[b"--worst", b"%d" % random.choice(MOST_WORST)]]
+        if command == b"vital" and random.random() < 0.5
+        else []
+    )
+    parts = [[word] for word in cut + brief + any_flow + nodes + path] + bound + worst
     words = [command] + [word for part in random.sample(parts, len(parts)) for word in part]
     if words == [b"solve"] and random.random() < 0.3:
         words = []
@@ -399,6 +404,7 @@ def words_of(command: bytes, random: Random) -> tuple[bytes, ...]:
 
 
 BOUNDS = [0, 1, 1, 2, 3, 5, 1_000_000, 1_000_001]
+MOST_WORST = [0, 1, 1, 2, 3, 5, 10_000, 10_001]
 ODD_WORDS = (
     [b"--history", b"--history=2", b"+1", b"1000001", b"-1"]
     + [
@@ -415,6 +421,7 @@ ODD_WORDS = (
         b"--brief",
         b"--cut",
         b"--nodes",
+        b"--worst",
         b"--",
         b"wash",
         b"--wash",

@@ -214,6 +214,9 @@ CUTS = st.sampled_from([(), (b"--cut",)])
 BRIEF = st.sampled_from([(), (), (b"--brief",)])
 ANY = st.sampled_from([(), (b"--any",)])
 NODES = st.sampled_from([(), (b"--nodes",)])
+WORST: st.SearchStrategy[tuple[bytes, ...]] = st.sampled_from(
+    [(), (), (b"--worst", b"0"), (b"--worst", b"1"), (b"--worst", b"3")]
+)
 BOUNDS: st.SearchStrategy[tuple[bytes, ...]] = st.sampled_from(
     [(), (), (b"--history", b"0"), (b"--history", b"1"), (b"--history", b"2")]
 )
@@ -227,9 +230,9 @@ def solves(draw: st.DrawFn) -> Case:
 
 @st.composite
 def values(draw: st.DrawFn) -> Case:
-    """What is left without each arc, or without each node."""
+    """What is left without each arc, or without each node, or without the worst."""
     text = draw(texts(problem_lines(draw(networks().filter(fits))), b"cx"))
-    return Case("values", (b"vital", *draw(NODES)), text, text)
+    return Case("values", (b"vital", *draw(NODES), *draw(WORST)), text, text)
 
 
 @st.composite

@@ -19,12 +19,12 @@ from worked_forms import CROSSED, CROSSED_FLOW, Worked, text
 USAGE = """Usage: dmf [solve [--any] [--brief] [--cut] [--progress]] <FILE
        dmf session [--brief] [--cut] [--history N] [--progress] PROBLEM
        dmf check PROBLEM <SOLUTION
-       dmf vital [--nodes] [--progress] <FILE
+       dmf vital [--nodes] [--progress] [--worst N] <FILE
 """
 SOLVE = "Usage: dmf solve [--any] [--brief] [--cut] [--progress] <FILE\n"
 SESSION = "Usage: dmf session [--brief] [--cut] [--history N] [--progress] PROBLEM\n"
 CHECK = "Usage: dmf check PROBLEM <SOLUTION\n"
-VITAL = "Usage: dmf vital [--nodes] [--progress] <FILE\n"
+VITAL = "Usage: dmf vital [--nodes] [--progress] [--worst N] <FILE\n"
 # The tools around the program, by their files.
 TOOLS = [
     name
@@ -104,6 +104,13 @@ REFUSED = [
     ("vital --nodes=2", "unexpected value '2' for '--nodes' found"),
     ("vital --nodes --nodes", "cannot be used multiple times"),
     ("vital --progress --progress", "cannot be used multiple times"),
+    ("vital --worst 1 --worst 1", "cannot be used multiple times"),
+    ("vital --worst -1", "unexpected argument '-1' found"),
+    ("vital --worst 1 P", "unexpected argument 'P' found"),
+    ("--worst 1", "unexpected argument '--worst' found"),
+    ("solve --worst 1", "unexpected argument '--worst' found"),
+    ("session --worst 1 P", "unexpected argument '--worst' found"),
+    ("check --worst 1 P", "unexpected argument '--worst' found"),
     ("--nodes", "unexpected argument '--nodes' found"),
     ("solve --nodes", "unexpected argument '--nodes' found"),
     ("session --nodes P", "unexpected argument '--nodes' found"),
@@ -115,6 +122,9 @@ BOUNDS = [
     ("session --history 1000001 P", "invalid value '1000001' for '--history <N>'"),
     ("session --history ++1 P", "invalid value '++1' for '--history <N>'"),
     ("session --history x P", "invalid value 'x' for '--history <N>'"),
+    ("vital --worst 10001", "invalid value '10001' for '--worst <N>'"),
+    ("vital --worst=x", "invalid value 'x' for '--worst <N>'"),
+    ("vital --worst", "a value is required for '--worst <N>' but none was supplied"),
     (
         "session --history 1 --history",
         "a value is required for '--history <N>' but none was supplied",
@@ -181,10 +191,12 @@ HELPS: list[tuple[str, tuple[str, ...]]] = [
         "vital --help",
         (
             VITAL,
-            "--nodes     Leave out each node in turn, rather than each arc\n",
-            "--progress  Tell on standard error how far it is\n",
+            "Leave out each node in turn, rather than each arc\n",
+            "Tell on standard error how far it is\n",
+            "--worst <N>",
             "\n  $ dmf vital <network.max\n  c value 5\n",
             "\n  $ dmf vital --nodes <network.max\n  c value 5\n  v 2 2\n  v 3 2\n",
+            "\n  $ dmf vital --worst 2 <network.max\n  c value 5\n  v 1 2\n  v 5 2\n",
         ),
     ),
     ("vital --progress -h", (VITAL,)),
@@ -196,7 +208,7 @@ VERSIONS = [(word, f"dmf {RELEASE}\n") for word in ("--version", "-V")]
 # What may stand after a command; the words of one part stand together.
 PARTS = ("--brief",), ("--cut",), ("--history", "1"), ("--progress",), (PROBLEM.decode(),)
 SOLVE_PARTS = ("--any",), *PARTS
-VITAL_PARTS = ("--nodes",), *PARTS
+VITAL_PARTS = ("--nodes",), ("--worst", "2"), *PARTS
 # What else may stand after `session`: other ways to write a bound, and paths that look like other
 # words. Of these paths only one has a file.
 SESSION_WORDS = (

@@ -39,7 +39,7 @@ def checked(name: str, problem: str | bytes, solution: str | bytes, verdict: str
 
 
 def valued(name: str, problem: str | bytes, written: str, *flags: bytes) -> Worked:
-    """What is left without each arc of a problem, or each node."""
+    """What is left without each arc of a problem, or each node, or without the worst."""
     case = Case(name, (b"vital", *flags), text(problem), text(problem))
     return Worked(case, Outcome(0, text(written)))
 
@@ -61,6 +61,7 @@ def wrong(problem: str | bytes, solution: str | bytes, told: str) -> Worked:
 
 CUT = b"--cut"
 NODES = b"--nodes"
+WORST = b"--worst"
 BRIEF = b"--brief"
 # Four nodes: two ways from the source to the sink, and an arc from the one to the other.
 CROSSED = "p max 4 5 / n 1 s / n 4 t / a 1 2 3 / a 1 3 2 / a 2 3 5 / a 2 4 2 / a 3 4 3"

@@ -77,7 +77,8 @@ class Outcome(NamedTuple):
 
 class Asked(NamedTuple):
     """What words ask for: a command, what is wanted of a solve's reply, the bound of the history,
-    the path where one is, whether any greatest flow will do, and whether nodes are valued."""
+    the path where one is, whether any greatest flow will do, whether nodes are valued, and how many
+    of the worst are told, where not all are."""
 
     command: str
     wanted: SolveReply
@@ -85,6 +86,7 @@ class Asked(NamedTuple):
     path: str = ""
     is_any: bool = False
     of_nodes: bool = False
+    most: int | None = None
 
 
 class Ended(Exception):
@@ -114,6 +116,10 @@ FLAGS: dict[str, tuple[str, ...]] = {
     "check": (),
     "vital": ("--nodes", "--progress"),
 }
+
+
+# The option with a number that a command takes, and the largest number.
+NUMBERS = {"session": ("--history", MOST_KEPT), "vital": ("--worst", 10_000)}
 
 
 def help_on(words: list[str]) -> Outcome:
@@ -154,7 +160,7 @@ def value_without(state: State, closed: Callable[[int, Arc], bool]) -> int:
     return solved(replace(state, arcs=arcs)).value()
 
 
-def vital(problem: bytes, of_nodes: bool) -> Outcome:
+def vital(problem: bytes, of_nodes: bool, most: int | None) -> Outcome:
     state = judged(read_problem, bounded(problem))
     if of_nodes:
         inner = sorted(set(range(1, state.nodes + 1)) - {state.source, state.sink})
@@ -162,6 +168,8 @@ def vital(problem: bytes, of_nodes: bool) -> Outcome:
     else:
         numbers = range(1, len(state.arcs) + 1)
         values = [(j, value_without(state, lambda number, _: number == j)) for j in numbers]
+    if most is not None:
+        values = sorted(values, key=lambda pair: (pair[1], pair[0]))[:most]
     lines = [written("v", number, value) for number, value in values]
     return Outcome(WELL, written("c", "value", solved(state).value()) + b"".join(lines))
 
@@ -225,11 +233,11 @@ def asked(words: list[str]) -> Asked | Outcome:
     return asked_of(words[0], words[1:])
 
 
-def bound_of(text: str) -> int | None:
-    """The bound that a text writes: digits, after a plus or not; none where it is past the most."""
+def number_of(text: str, most: int) -> int | None:
+    """The number that a text writes: digits, after a plus or not; none if it is past the most."""
     digits = text.removeprefix("+")
     is_number = digits.isascii() and digits.isdigit()
-    return int(digits) if is_number and int(digits) <= MOST_KEPT else None
+    return int(digits) if is_number and int(digits) <= most else None
 
 
 def asked_of(command: str, words: list[str]) -> Asked | Outcome:
@@ -237,21 +245,18 @@ def asked_of(command: str, words: list[str]) -> Asked | Outcome:
     path_count = 0 if command in ("solve", "vital") else 1
     paths: list[str] = []
     flags: set[str] = set()
-    bound, are_flags = None, True
+    option, most = NUMBERS.get(command, ("", 0))
+    number, are_flags = None, True
     rest = iter(words)
     for word in rest:
-        if (
-            are_flags
-            and command == "session"
-            and (word == "--history" or word.startswith("--history="))
-        ):
-            value = word.removeprefix("--history=") if "=" in word else next(rest, "--")
+        if are_flags and option and (word == option or word.startswith(f"{option}=")):
+            value = word.removeprefix(f"{option}=") if "=" in word else next(rest, "--")
             # That a value is missing is told before that the option is there twice.
             is_missing = "=" not in word and value.startswith("-") and value != "-"
-            if bound is not None and not is_missing:
+            if number is not None and not is_missing:
                 return REFUSED_WORDS
-            bound = bound_of(value)
-            if bound is None:
+            number = number_of(value, most)
+            if number is None:
                 return REFUSED_VALUE
         elif are_flags and word in ("-h", "--help"):
             return help_on([command])
@@ -271,10 +276,11 @@ def asked_of(command: str, words: list[str]) -> Asked | Outcome:
     return Asked(
         command,
         wanted,
-        MOST_KEPT if bound is None else bound,
+        number if command == "session" and number is not None else MOST_KEPT,
         "".join(paths),
         "--any" in flags,
         "--nodes" in flags,
+        number if command == "vital" else None,
     )
 
 
@@ -287,12 +293,12 @@ def run(words: Sequence[bytes], standard_input: bytes, refusals: Refusals | None
     asked_for = asked(texts)
     if isinstance(asked_for, Outcome):
         return asked_for
-    command, wanted, bound, path, is_any, of_nodes = asked_for
+    command, wanted, bound, path, is_any, of_nodes, most = asked_for
     try:
         if command == "solve":
             return solve(standard_input, wanted, is_any)
         if command == "vital":
-            return vital(standard_input, of_nodes)
+            return vital(standard_input, of_nodes, most)
         if command == "check":
             return check(read_file(path), standard_input)
         return session(read_file(path), standard_input, wanted, bound, refusals)

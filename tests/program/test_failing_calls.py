@@ -35,6 +35,7 @@ LONG = [
     Case("a long solution", (b"solve", b"--cut"), WIDE, WIDE),
     Case("many values", (b"vital",), WIDE, WIDE),
     Case("many values of nodes", (b"vital", b"--nodes"), ROWED, ROWED),
+    Case("many of the worst", (b"vital", b"--worst", b"1000"), WIDE, WIDE),
     Case("long replies", (b"session", PROBLEM), WIDE, text("solve / print problem / print cut")),
 ]
 WORDS = [

@@ -59,6 +59,7 @@ REFUSED_WORDS = {
     "an option of vital that does not exist": ["vital", "--arcs"],
     "nodes of vital twice": ["vital", "--nodes", "--nodes"],
     "nodes of a solve": ["solve", "--nodes"],
+    "the worst of a solve": ["solve", "--worst", "1"],
     "progress of vital twice": ["vital", "--progress", "--progress"],
     "an empty word": [""],
     "no problem is named": ["session"],

@@ -1,6 +1,6 @@
 """Compares what `dmf vital` writes with whole solves of the network without each arc or each node,
-by networkx: on random networks, on those of each family of the benchmark, and on the examples.
-`--long` tries 100,000 random networks."""
+by networkx, and the worst of them with all: on random networks, on those of each family of the
+benchmark, and on the examples. `--long` tries 100,000 random networks."""
 
 from __future__ import annotations
 
@@ -71,12 +71,23 @@ def judge_rows(problem: bytes, flags: list[bytes], numbers: list[int], is_closed
     }
 
 
+def judge_worst(problem: bytes, flags: list[bytes]) -> None:
+    """Compares the worst, few and many, with the values of all."""
+    first, *rows = vital(problem, *flags)
+    ordered = sorted(rows, key=lambda row: (int(row.split()[2]), int(row.split()[1])))
+    for most in (0, 1, 2, 5, len(rows), len(rows) + 1):
+        worst = vital(problem, *flags, b"--worst", b"%d" % most)
+        assert worst == [first, *ordered[:most]], most
+
+
 def judge(problem: bytes) -> None:
     """Compares the values without arcs, and those without nodes."""
     state = read_problem(problem)
     judge_rows(problem, [], list(range(1, len(state.arcs) + 1)), is_arc)
     inner = [v for v in range(1, state.nodes + 1) if v not in (state.source, state.sink)]
     judge_rows(problem, [NODES], inner, is_at_node)
+    judge_worst(problem, [])
+    judge_worst(problem, [NODES])
 
 
 @pytest.mark.seconds(5)

@@ -25,6 +25,11 @@ history_rule =
       parser = Some (Signed (pos 0) (pos 1000000));
     }
 
+-- `--worst N`, with N from 0 to 10,000
+abbrev pub worst_rule : Rule
+worst_rule =
+    record (new_rule (codes "worst")) { long = Some (codes "worst"); value_names = 1; parser = Some (Signed (pos 0) (pos 10000)) }
+
 -- the path of the problem's file, which is required
 abbrev pub problem_rule : Rule
 problem_rule = record (new_rule (codes "problem")) { value_names = 1; required = true }
@@ -43,7 +48,7 @@ abbrev pub check_line : App
 check_line = with_rule (new_app (codes "check")) problem_rule
 
 abbrev pub vital_line : App
-vital_line = with_rule (with_rule (new_app (codes "vital")) (flag_rule (codes "nodes"))) (flag_rule (codes "progress"))
+vital_line = with_rule (with_rule (with_rule (new_app (codes "vital")) (flag_rule (codes "nodes"))) (flag_rule (codes "progress"))) worst_rule
 
 -- the program itself, which has a version
 abbrev pub program_line : App
@@ -61,7 +66,7 @@ IsRule rule arg = (rule_of arg ≡ rule) × (arg.global ≡ false)
 abbrev pub IsCommandLine : App → Command → Type 0
 IsCommandLine line made = (app_of made ≡ line) × ((fields_of made).has_globals ≡ false)
 
--- the command that a parse finds, with the texts of its five flags, of its bound and of its path, where it has them
+-- the command that a parse finds, with the texts of its five flags, of its two numbers and of its path, where it has them
 pub record Asked : Type 0 where
   pub command : Text
   pub cut : Option Text
@@ -70,6 +75,7 @@ pub record Asked : Type 0 where
   pub nodes : Option Text
   pub progress : Option Text
   pub history : Option Text
+  pub worst : Option Text
   pub problem : Option Text
 
 abbrev pub asked_of : Option (Text × List Row) → Option Asked
@@ -81,6 +87,7 @@ asked_of = option_map (λ found. record {
   nodes = one_of (codes "nodes") found.1;
   progress = one_of (codes "progress") found.1;
   history = one_of (codes "history") found.1;
+  worst = one_of (codes "worst") found.1;
   problem = first_of (codes "problem") found.1;
 })
 

@@ -32,7 +32,7 @@ abbrev pub IsTaken : List Text → Option Asked → Type 0
 IsTaken words asked = HasFaults [] words × ((name : Text) → asked_in (name ∷ words) ≡ asked)
 
 -- a solve, with the cut, a brief answer, any greatest flow and progress or without; a session, with the cut, brief replies and progress or
--- without; a check; a valuing of each arc or of each node, with progress or without
+-- without; a check; a valuing of each arc or of each node, of all or of the worst, with progress or without
 abbrev pub solve_of : Bool → Bool → Bool → Bool → Option Asked
 solve_of cut brief any progress =
     Some (record {
@@ -43,6 +43,7 @@ solve_of cut brief any progress =
       nodes = None;
       progress = Some (bool_text progress);
       history = None;
+      worst = None;
       problem = None;
     })
 
@@ -56,15 +57,16 @@ session_of cut brief progress path =
       nodes = None;
       progress = Some (bool_text progress);
       history = Some (codes "1000000");
+      worst = None;
       problem = Some path;
     })
 
 abbrev pub check_of : Text → Option Asked
 check_of path =
-    Some (record { command = codes "check"; cut = None; brief = None; any = None; nodes = None; progress = None; history = None; problem = Some path })
+    Some (record { command = codes "check"; cut = None; brief = None; any = None; nodes = None; progress = None; history = None; worst = None; problem = Some path })
 
-abbrev pub vital_of : Bool → Bool → Option Asked
-vital_of nodes progress =
+abbrev pub vital_of : Bool → Bool → Option Text → Option Asked
+vital_of nodes progress worst =
     Some (record {
       command = codes "vital";
       cut = None;
@@ -73,20 +75,23 @@ vital_of nodes progress =
       nodes = Some (bool_text nodes);
       progress = Some (bool_text progress);
       history = None;
+      worst = worst;
       problem = None;
     })
 
 -- words that begin with an option, whatever stands after it
 abbrev pub misplaced : List Text → List (List Text)
 misplaced rest = (codes "--cut" ∷ rest) ∷ (codes "--brief" ∷ rest) ∷ (codes "--any" ∷ rest) ∷ (codes "--nodes" ∷ rest) ∷ (codes "--progress" ∷ rest)
-    ∷ (codes "--history" ∷ rest) ∷ []
+    ∷ (codes "--history" ∷ rest) ∷ (codes "--worst" ∷ rest) ∷ []
 
 -- words with an option after a command that does not take it
 abbrev pub strange : Text → List (List Text)
-strange word = (codes "solve" ∷ codes "--history" ∷ word ∷ []) ∷ (codes "solve" ∷ codes "--nodes" ∷ word ∷ [])
-    ∷ (codes "session" ∷ codes "--any" ∷ word ∷ []) ∷ (codes "session" ∷ codes "--nodes" ∷ word ∷ [])
+strange word = (codes "solve" ∷ codes "--history" ∷ word ∷ []) ∷ (codes "solve" ∷ codes "--worst" ∷ word ∷ [])
+    ∷ (codes "solve" ∷ codes "--nodes" ∷ word ∷ [])
+    ∷ (codes "session" ∷ codes "--any" ∷ word ∷ []) ∷ (codes "session" ∷ codes "--nodes" ∷ word ∷ []) ∷ (codes "session" ∷ codes "--worst" ∷ word ∷ [])
     ∷ (codes "check" ∷ codes "--any" ∷ word ∷ []) ∷ (codes "check" ∷ codes "--cut" ∷ word ∷ []) ∷ (codes "check" ∷ codes "--brief" ∷ word ∷ [])
     ∷ (codes "check" ∷ codes "--nodes" ∷ word ∷ []) ∷ (codes "check" ∷ codes "--progress" ∷ word ∷ []) ∷ (codes "check" ∷ codes "--history" ∷ word ∷ [])
+    ∷ (codes "check" ∷ codes "--worst" ∷ word ∷ [])
     ∷ (codes "vital" ∷ codes "--any" ∷ word ∷ []) ∷ (codes "vital" ∷ codes "--cut" ∷ word ∷ []) ∷ (codes "vital" ∷ codes "--brief" ∷ word ∷ [])
     ∷ (codes "vital" ∷ codes "--history" ∷ word ∷ []) ∷ []
 
@@ -116,10 +121,12 @@ pub record PlainWords : Type 0 where
   pub session_cut : (path : Text) → IsPlain path → IsTaken (codes "session" ∷ codes "--cut" ∷ path ∷ []) (session_of true false false path)
   pub cut_behind : (path : Text) → IsPlain path → IsTaken (codes "session" ∷ path ∷ codes "--cut" ∷ []) (session_of true false false path)
   pub check : (path : Text) → IsPlain path → IsTaken (codes "check" ∷ path ∷ []) (check_of path)
-  pub vital : IsTaken (codes "vital" ∷ []) (vital_of false false)
-  pub vital_progress : IsTaken (codes "vital" ∷ codes "--progress" ∷ []) (vital_of false true)
-  pub vital_nodes : IsTaken (codes "vital" ∷ codes "--nodes" ∷ []) (vital_of true false)
-  pub vital_both : IsTaken (codes "vital" ∷ codes "--progress" ∷ codes "--nodes" ∷ []) (vital_of true true)
+  pub vital : IsTaken (codes "vital" ∷ []) (vital_of false false None)
+  pub vital_progress : IsTaken (codes "vital" ∷ codes "--progress" ∷ []) (vital_of false true None)
+  pub vital_nodes : IsTaken (codes "vital" ∷ codes "--nodes" ∷ []) (vital_of true false None)
+  pub vital_both : IsTaken (codes "vital" ∷ codes "--progress" ∷ codes "--nodes" ∷ []) (vital_of true true None)
+  pub vital_worst : IsTaken (codes "vital" ∷ codes "--worst" ∷ codes "10" ∷ []) (vital_of false false (Some (codes "10")))
+  pub vital_worst_nodes : IsTaken (codes "vital" ∷ codes "--nodes" ∷ codes "--worst" ∷ codes "0" ∷ []) (vital_of true false (Some (codes "0")))
   pub no_path : HasFaults (MissingRequiredArgument ∷ []) (codes "session" ∷ []) × HasFaults (MissingRequiredArgument ∷ []) (codes "check" ∷ [])
   pub solve_path : (path : Text) → IsPlain path → HasFaults (UnknownArgument ∷ []) (codes "solve" ∷ path ∷ [])
   pub vital_path : (path : Text) → IsPlain path → HasFaults (UnknownArgument ∷ []) (codes "vital" ∷ path ∷ [])

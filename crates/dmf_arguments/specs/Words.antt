@@ -16,18 +16,18 @@ use Rattle.dmf_arguments.specs.declared.words.WordsFault.TheVariants.{Help, Usag
 -- The task of the program, with the path of the problem's file. A solve and a session say whether the cut is wanted, whether a solve is
 -- answered briefly, and last whether progress is wanted where standard error is no terminal. A solve also says before that whether any
 -- greatest flow will do, and a session after it the bound of its history. A run that values each arc, or each node where the first flag says
--- so, has no path, and says whether progress is wanted.
+-- so, has no path, and says how many of the worst are told, or that all are, and whether progress is wanted.
 pub data Task : Type 0 where
   solving : Bool → Bool → Bool → Bool → Task
   holding : Bool → Bool → Bool → ℕ → Text → Task
   checking : Text → Task
-  valuing : Bool → Bool → Task
+  valuing : Bool → Option ℕ → Bool → Task
 
 abbrev pub task_with : Bool → Bool → Mode → Task
 task_with brief progress (mode.Solve cut any) = solving cut brief any progress
 task_with brief progress (mode.Session cut history problem) = holding cut brief progress history problem.bytes.items
 task_with brief progress (mode.Check problem) = checking problem.bytes.items
-task_with brief progress (mode.Vital nodes) = valuing nodes progress
+task_with brief progress (mode.Vital nodes worst) = valuing nodes worst progress
 
 abbrev pub task_of : Arguments → Task
 task_of asked = task_with asked.brief asked.progress asked.mode
@@ -41,13 +41,24 @@ abbrev pub HasBound : Mode → Type 0
 HasBound (mode.Solve cut any) = ⊤
 HasBound (mode.Session cut history problem) = history ≤ 1000000
 HasBound (mode.Check problem) = ⊤
-HasBound (mode.Vital nodes) = ⊤
+HasBound (mode.Vital nodes worst) = ⊤
 
--- The text writes this bound: decimal digits, after a plus or not, of a number that is at most 1,000,000.
-pub record IsBound (text : Text) (bound : ℕ) : Type 0 where
+-- The text writes this number: decimal digits, after a plus or not, of a number that is at most the largest.
+pub record IsNumberUpTo (largest : ℕ) (text : Text) (number : ℕ) : Type 0 where
   pub numeral : IsNumeral 10 (without_leading_plus text)
-  pub value : bound ≡ digits_value 10 (without_leading_plus text)
-  pub at_most : bound ≤ 1000000
+  pub value : number ≡ digits_value 10 (without_leading_plus text)
+  pub at_most : number ≤ largest
+
+-- It is the bound of a session's history.
+abbrev pub IsBound : Text → ℕ → Type 0
+IsBound = IsNumberUpTo 1000000
+
+-- Of the worst this many are asked for, by such a text, or all by none.
+abbrev pub IsMost : Option Text → Option ℕ → Type 0
+IsMost None None = ⊤
+IsMost None (Some most) = ⊥
+IsMost (Some text) None = ⊥
+IsMost (Some text) (Some most) = IsNumberUpTo 10000 text most
 
 -- ---- what a parse finds asks for a task: each flag by its text, `true` or `false`
 
@@ -56,7 +67,7 @@ abbrev pub AsksNothing : Option Asked → Result Arguments WordsFault → Type 0
 AsksNothing asked result = asked ≡ None → GivesTask (solving false false false false) result
 
 abbrev pub AsksSolve : Option Asked → Result Arguments WordsFault → Type 0
-AsksSolve asked result = (cut brief any progress : Bool) (nodes text path : Option Text)
+AsksSolve asked result = (cut brief any progress : Bool) (nodes text worst path : Option Text)
     → asked ≡ Some (record {
       command = codes "solve";
       cut = Some (bool_text cut);
@@ -65,12 +76,13 @@ AsksSolve asked result = (cut brief any progress : Bool) (nodes text path : Opti
       nodes = nodes;
       progress = Some (bool_text progress);
       history = text;
+      worst = worst;
       problem = path;
     })
     → GivesTask (solving cut brief any progress) result
 
 abbrev pub AsksSession : Option Asked → Result Arguments WordsFault → Type 0
-AsksSession asked result = (cut brief progress : Bool) (any nodes : Option Text) (text : Text) (bound : ℕ) (path : Text)
+AsksSession asked result = (cut brief progress : Bool) (any nodes worst : Option Text) (text : Text) (bound : ℕ) (path : Text)
     → asked ≡ Some (record {
       command = codes "session";
       cut = Some (bool_text cut);
@@ -79,17 +91,18 @@ AsksSession asked result = (cut brief progress : Bool) (any nodes : Option Text)
       nodes = nodes;
       progress = Some (bool_text progress);
       history = Some text;
+      worst = worst;
       problem = Some path;
     })
     → IsBound text bound → GivesTask (holding cut brief progress bound path) result
 
 abbrev pub AsksCheck : Option Asked → Result Arguments WordsFault → Type 0
-AsksCheck asked result = (cut brief any nodes progress text : Option Text) (path : Text)
-    → asked ≡ Some (record { command = codes "check"; cut = cut; brief = brief; any = any; nodes = nodes; progress = progress; history = text; problem = Some path })
+AsksCheck asked result = (cut brief any nodes progress text worst : Option Text) (path : Text)
+    → asked ≡ Some (record { command = codes "check"; cut = cut; brief = brief; any = any; nodes = nodes; progress = progress; history = text; worst = worst; problem = Some path })
     → GivesTask (checking path) result
 
 abbrev pub AsksVital : Option Asked → Result Arguments WordsFault → Type 0
-AsksVital asked result = (nodes progress : Bool) (cut brief any text path : Option Text)
+AsksVital asked result = (nodes progress : Bool) (cut brief any text worst path : Option Text) (most : Option ℕ)
     → asked ≡ Some (record {
       command = codes "vital";
       cut = cut;
@@ -98,9 +111,10 @@ AsksVital asked result = (nodes progress : Bool) (cut brief any text path : Opti
       nodes = Some (bool_text nodes);
       progress = Some (bool_text progress);
       history = text;
+      worst = worst;
       problem = path;
     })
-    → GivesTask (valuing nodes progress) result
+    → IsMost worst most → GivesTask (valuing nodes most progress) result
 
 abbrev pub Asks : Option Asked → Result Arguments WordsFault → Type 0
 Asks asked result = AsksNothing asked result × AsksSolve asked result × AsksSession asked result × AsksCheck asked result × AsksVital asked result

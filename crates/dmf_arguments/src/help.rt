@@ -27,6 +27,9 @@ pub const NODES: &str = "Leave out each node in turn, rather than each arc";
 /// The option `--progress`.
 pub const PROGRESS: &str = "Tell on standard error how far it is";
 
+/// The option `--worst`.
+pub const WORST: &str = "Write the N whose loss costs most, the worst first";
+
 /// The path after `dmf session` and `dmf check`.
 pub const PROBLEM: &str = "The file with the problem";
 
@@ -47,7 +50,7 @@ pub const PROGRAM: Help = Help {
     usage: "dmf [solve [--any] [--brief] [--cut] [--progress]] <FILE
        dmf session [--brief] [--cut] [--history N] [--progress] PROBLEM
        dmf check PROBLEM <SOLUTION
-       dmf vital [--nodes] [--progress] <FILE",
+       dmf vital [--nodes] [--progress] [--worst N] <FILE",
     notes: "How much can the network carry, and where is its limit?
   $ dmf solve --cut <network.max | grep -v '^f'
   s 5
@@ -168,7 +171,7 @@ status 1. man dmf has the formats.",
 /// The help of `dmf vital`.
 pub const VITAL: Help = Help {
     about: "Find how much can be sent without each arc, or without each node",
-    usage: "dmf vital [--nodes] [--progress] <FILE",
+    usage: "dmf vital [--nodes] [--progress] [--worst N] <FILE",
     notes: "Example:
   $ dmf vital <network.max
   c value 5
@@ -189,6 +192,12 @@ sink, and how much can be sent if all arcs at that node are closed:
   c value 5
   v 2 2
   v 3 2
+
+With --worst N only the N that cost most to lose have a line, the worst first:
+  $ dmf vital --worst 2 <network.max
+  c value 5
+  v 1 2
+  v 5 2
 
 man dmf has the formats.",
 };

@@ -1,9 +1,9 @@
 //! The words of the program's arguments: what they ask for.
-ghost use Rattle.std.specs.Prelude.{ℕ, ◌≡◌, ◌≤◌, IfOk, Some, codes, map};
+ghost use Rattle.std.specs.Prelude.{ℕ, ◌≡◌, ◌≤◌, IfOk, None, Some, codes, map};
 ghost use Rattle.clap.specs.Words.{app_of, first_value, found_of, kind_of, new_app, one_text, subcommand_rows_of, Text};
 ghost use Rattle.dmf_arguments.specs.CommandLine.{IsCommandLine, IsRule, asked_of, arguments, flag_rule, history_rule, problem_rule};
-ghost use Rattle.dmf_arguments.specs.CommandLine.{check_line, program_line, session_line, solve_line, vital_line};
-ghost use Rattle.dmf_arguments.specs.Words.{AsksCheck, AsksNothing, AsksSession, AsksSolve, AsksVital, HasBound, IsBound, ReadsMode, ReadsWords, TellsKind};
+ghost use Rattle.dmf_arguments.specs.CommandLine.{check_line, program_line, session_line, solve_line, vital_line, worst_rule};
+ghost use Rattle.dmf_arguments.specs.Words.{AsksCheck, AsksNothing, AsksSession, AsksSolve, AsksVital, HasBound, IsBound, IsNumberUpTo, ReadsMode, ReadsWords, TellsKind};
 
 use crate::help;
 use crate::help::Help;
@@ -13,6 +13,9 @@ use std::alloc::{AllocError, Global};
 
 /// The largest number that `--history` takes. It is the largest bound of a session's history, too, so each history can be asked for.
 pub const MAX_HISTORY: u32 = 1_000_000;
+
+/// The largest number that `--worst` takes.
+pub const MAX_WORST: u32 = 10_000;
 
 /// A run that the arguments ask for.
 #[derive(Debug, Drop, PartialEq, Eq)]
@@ -34,9 +37,11 @@ pub enum Mode {
     Check {
         problem: String,
     },
-    /// Find what is left without each arc of the problem on standard input, or with `nodes` without each node.
+    /// Find what is left without each arc of the problem on standard input, or with `nodes` without each node. With `worst` only so many
+    /// are told, the worst first.
     Vital {
         nodes: bool,
+        worst: Option<u32>,
     },
 }
 
@@ -87,8 +92,8 @@ pub fn read_words(alloc: Global, words: Vec<String>) -> Result<Mode, WordsFault>
 ///
 /// No words after it, or `solve`, ask for [`Mode::Solve`]. `session PROBLEM` asks for [`Mode::Session`], `check PROBLEM` for
 /// [`Mode::Check`], and `vital` for [`Mode::Vital`]. The flags `--brief`, `--cut` and `--progress` may stand after `solve` and `session`,
-/// `--any` after `solve` alone, `--history N` after `session` alone, `--nodes` after `vital` alone, and `--progress` after `vital` too. N is a
-/// number up to [`MAX_HISTORY`], which is its default. `--help` may stand after each command or alone. A PROBLEM that begins with a dash stands after `--`.
+/// `--any` after `solve` alone, `--history N` after `session` alone, `--nodes` and `--worst N` after `vital` alone, and `--progress` after
+/// `vital` too. The N of `--history` is a number up to [`MAX_HISTORY`], which is its default, and that of `--worst` one up to [`MAX_WORST`]. `--help` may stand after each command or alone. A PROBLEM that begins with a dash stands after `--`.
 ///
 /// `--help` gives [`WordsFault::Help`], and so do `help`, alone or before a command, and `--version` alone. All other words give
 /// [`WordsFault::Usage`]. The texts are those of `clap`. [`WordsFault::NoMemory`] may come in place of any answer.
@@ -173,7 +178,8 @@ fn vital<'a>(alloc: Global) -> Result<Command<'a>, AllocError>
 {
     named(alloc, "vital", help::VITAL)
         .arg(flag(alloc, "nodes", help::NODES))?
-        .arg(flag(alloc, "progress", help::PROGRESS))
+        .arg(flag(alloc, "progress", help::PROGRESS))?
+        .arg(worst(alloc))
 }
 
 /// The option of this name, which has no value.
@@ -197,6 +203,18 @@ fn history<'a>(alloc: Global) -> Arg<'a>
         .default_value("1000000")
         .value_parser(value_parser!(u32).range(0..=i64::from(MAX_HISTORY)))
         .help(help::HISTORY)
+}
+
+/// The option that says how many arcs or nodes are told, the worst first.
+#[inline(never)]
+fn worst<'a>(alloc: Global) -> Arg<'a>
+    ensures { IsRule worst_rule result }
+{
+    Arg::new(alloc, "worst")
+        .long("worst")
+        .value_name("N")
+        .value_parser(value_parser!(u32).range(0..=i64::from(MAX_WORST)))
+        .help(help::WORST)
 }
 
 /// The word that names the problem's file.
@@ -240,6 +258,7 @@ fn arguments_of(alloc: Global, matches: &ArgMatches<'_>) -> Result<Arguments, Wo
             brief: false,
             mode: Mode::Vital {
                 nodes: vital.get_flag("nodes"),
+                worst: worst_of(vital),
             },
         }),
         Some((_, solve)) => Ok(Arguments {
@@ -271,6 +290,15 @@ fn bound_of(matches: &ArgMatches<'_>) -> u32
         .get_one::<u32>("history")
         .unwrap_or(MAX_HISTORY)
         .min(MAX_HISTORY)
+}
+
+/// How many of the worst are told, if that is asked for.
+fn worst_of(matches: &ArgMatches<'_>) -> Option<u32>
+    ensures all { one_text (found_of matches.now) (codes "worst") ≡ None → result ≡ None }
+    ensures some { (text : Text) (most : ℕ) → one_text (found_of matches.now) (codes "worst") ≡ Some text
+        → IsNumberUpTo 10000 text most → result ≡ Some most }
+{
+    matches.get_one::<u32>("worst")
 }
 
 /// The path of the problem's file. It is required, so it is there.

@@ -100,9 +100,9 @@ pub fn explain_read(rt: &HostRuntime, origin: Origin<'_>) {
 }
 
 /// Explains words that the program refuses, by what they may mean. A file named where no file belongs has to exist, unless it stands
-/// after `solve`.
-pub fn explain_words(rt: &HostRuntime, words: &[String], most: u32) {
-    if let Some(meant) = meant_by(words, most) {
+/// after `solve`. The numbers are the largest of `--history` and of `--worst`.
+pub fn explain_words(rt: &HostRuntime, words: &[String], history: u32, worst: u32) {
+    if let Some(meant) = meant_by(words, history, worst) {
         if is_likely(rt, words, meant) {
             let _ = eprintln!(rt; "{meant}");
         }

@@ -13,7 +13,7 @@ pub enum Meant<'a> {
     },
     /// To value each arc, or each node, of the problem in this file, which has to come from standard input.
     Vital {
-        nodes: bool,
+        flags: VitalFlags<'a>,
         file: &'a str,
     },
     /// To check a problem's solution, or to run commands on a problem, from this file, which has to come from standard input.
@@ -22,8 +22,8 @@ pub enum Meant<'a> {
         problem: &'a str,
         file: &'a str,
     },
-    /// A bound of the history.
-    History {
+    /// The number of an option.
+    Number {
         most: u32,
     },
 }
@@ -34,6 +34,23 @@ pub struct SolveFlags {
     any: bool,
     brief: bool,
     cut: bool,
+}
+
+/// The options before a file whose parts are valued.
+#[derive(Clone, Copy)]
+pub struct VitalFlags<'a> {
+    nodes: bool,
+    worst: Option<&'a str>,
+}
+
+impl fmt::Display for VitalFlags<'_> {
+    fn fmt<W: fmt::Write>(&self, f: &mut fmt::Formatter<W>) -> fmt::Result {
+        let nodes = if self.nodes { "--nodes " } else { "" };
+        match self.worst {
+            Some(worst) => write!(f, "{nodes}--worst {worst} "),
+            None => write!(f, "{nodes}"),
+        }
+    }
 }
 
 impl fmt::Display for SolveFlags {
@@ -52,10 +69,9 @@ impl fmt::Display for Meant<'_> {
                 let shown = Shown(file.as_bytes());
                 write!(f, "dmf solve {flags}<{shown}")
             }
-            Meant::Vital { nodes, file } => {
-                let nodes = if *nodes { "--nodes " } else { "" };
+            Meant::Vital { flags, file } => {
                 let shown = Shown(file.as_bytes());
-                write!(f, "dmf vital {nodes}<{shown}")
+                write!(f, "dmf vital {flags}<{shown}")
             }
             Meant::Input {
                 command,
@@ -66,15 +82,18 @@ impl fmt::Display for Meant<'_> {
                 let shown = Shown(file.as_bytes());
                 write!(f, "dmf {command} {problem} <{shown}")
             }
-            Meant::History { most } => write!(f, "N is a whole number from 0 to {most}"),
+            Meant::Number { most } => write!(f, "N is a whole number from 0 to {most}"),
         }
     }
 }
 
-/// What these words may mean. The first is the program's name.
-pub fn meant_by<'a>(words: &'a [String], most: u32) -> Option<Meant<'a>> {
-    if has_wrong_history(words, u64::from(most)) {
-        return Some(Meant::History { most });
+/// What these words may mean. The first is the program's name, and the numbers are the largest of `--history` and of `--worst`.
+pub fn meant_by<'a>(words: &'a [String], history: u32, worst: u32) -> Option<Meant<'a>> {
+    if has_wrong_number(words, "--history", u64::from(history)) {
+        return Some(Meant::Number { most: history });
+    }
+    if has_wrong_number(words, "--worst", u64::from(worst)) {
+        return Some(Meant::Number { most: worst });
     }
     match words {
         [_, command, rest @ ..] if command.as_str() == "solve" => solve_of(rest),
@@ -120,18 +139,28 @@ fn solve_of(words: &[String]) -> Option<Meant<'_>> {
     Some(Meant::Solve { flags, file })
 }
 
-/// The run that the words after `vital` may mean: they have one file, with `--nodes` or without.
+/// The run that the words after `vital` may mean: they have one file beside the options, whose name needs no quotes.
 fn vital_of(words: &[String]) -> Option<Meant<'_>> {
-    let (nodes, file) = match words {
-        [file] => (false, file.as_str()),
-        [flag, file] if flag.as_str() == "--nodes" => (true, file.as_str()),
-        [file, flag] if flag.as_str() == "--nodes" => (true, file.as_str()),
-        _ => return None,
-    };
-    if is_file_name(file) {
-        return Some(Meant::Vital { nodes, file });
+    let mut nodes = false;
+    let mut worst: Option<&str> = None;
+    let mut is_worst = false;
+    let mut meant: Option<&str> = None;
+    for word in words {
+        let word = word.as_str();
+        match word {
+            number if is_worst => {
+                worst = Some(number);
+                is_worst = false;
+            }
+            "--nodes" => nodes = true,
+            "--worst" => is_worst = true,
+            file if meant.is_none() && is_file_name(file) => meant = Some(file),
+            _ => return None,
+        }
     }
-    None
+    let file = meant?;
+    let flags = VitalFlags { nodes, worst };
+    Some(Meant::Vital { flags, file })
 }
 
 /// Whether the word may name a file, by a name that needs no quotes.
@@ -148,22 +177,22 @@ fn is_plain(word: &str) -> bool {
     is_plain
 }
 
-/// Whether the word after `--history` is not a number up to the most.
-fn has_wrong_history(words: &[String], most: u64) -> bool {
-    let mut is_bound = false;
+/// Whether the option's word is followed by none that is a number up to the most.
+fn has_wrong_number(words: &[String], option: &str, most: u64) -> bool {
+    let mut is_number = false;
     for word in words {
         let word = word.as_bytes();
-        if is_bound && !is_at_most(word, most) {
+        if is_number && !is_at_most(word, most) {
             return true;
         }
-        is_bound = word == b"--history".as_slice();
-        if let Some(value) = word.strip_prefix(b"--history=".as_slice()) {
+        is_number = word == option.as_bytes();
+        if let Some([b'=', value @ ..]) = word.strip_prefix(option.as_bytes()) {
             if !is_at_most(value, most) {
                 return true;
             }
         }
     }
-    is_bound
+    is_number
 }
 
 fn is_at_most(word: &[u8], most: u64) -> bool {

@@ -1,7 +1,7 @@
 //! What is told on a terminal after a fault. By its words it is known from where the program reads.
 use crate::arguments::words;
 use crate::fault::Fault;
-use dmf_arguments::{MAX_HISTORY, Mode, read_words};
+use dmf_arguments::{MAX_HISTORY, MAX_WORST, Mode, read_words};
 use dmf_explain::{
     Origin, explain_open, explain_problem, explain_read, explain_solution, explain_words,
 };
@@ -18,7 +18,7 @@ pub fn explain(rt: &HostRuntime, fault: &Fault) {
         return;
     };
     if let Fault::Usage = fault {
-        explain_words(rt, &words, MAX_HISTORY);
+        explain_words(rt, &words, MAX_HISTORY, MAX_WORST);
     } else if let Ok(mode) = read_words(rt.alloc(), words) {
         explain_run(rt, &mode, fault);
     }

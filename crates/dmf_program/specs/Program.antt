@@ -1,6 +1,6 @@
 -- What the program does: which run its arguments ask for, on what, and how it ends.
 -- Public: a public contract says no more than this.
-use Rattle.std.specs.Prelude.{ℕ, ◌≡◌, ◌⊎◌, List, [], ◌∷◌, ◌++◌, Bool, true, false, Result, Ok, Err, IfErr, codes}
+use Rattle.std.specs.Prelude.{ℕ, ◌≡◌, ◌⊎◌, List, [], ◌∷◌, ◌++◌, Bool, true, false, Option, None, Some, Result, Ok, Err, IfErr, codes}
 use Rattle.std.specs.Str.{trim_end}
 use Rattle.dmf_arguments.specs.Words.{Task, solving, holding, checking, valuing, task_of, ReadsWords}
 use Rattle.dmf_arguments.specs.declared.words.Arguments.{Arguments}
@@ -15,7 +15,7 @@ use Rattle.dmf_streams.specs.declared.fault.EngineFault.{EngineFault}
 use Rattle.dmf_streams.specs.declared.fault.EngineFault.TheVariants as engine
 use Rattle.dmf_solving.specs.SolveRun.{RunsSolve, RunsBrief, RunsAny}
 use Rattle.dmf_solving.specs.CheckRun.{RunsCheck}
-use Rattle.dmf_valuing.specs.Rows.{AreArcRows, AreNodeRows}
+use Rattle.dmf_valuing.specs.Rows.{AreArcRows, AreNodeRows, AreWorstArcRows, AreWorstNodeRows}
 use Rattle.dmf_valuing.specs.VitalRun.{RunsVital}
 use Rattle.dmf_runs.specs.Streams.{Streams}
 use Rattle.dmf_runs.specs.Session.{RunsSessionWith}
@@ -48,10 +48,12 @@ RunsSolving cut true any = RunsBrief cut
 RunsSolving cut false true = RunsAny cut
 RunsSolving cut false false = RunsSolve cut
 
--- A run that values each node, or else each arc.
-abbrev pub RunsValuing : Bool → Reader → Reader → Writer → Writer → Result Status EngineFault → Type 0
-RunsValuing true = RunsVital AreNodeRows
-RunsValuing false = RunsVital AreArcRows
+-- A run that values each node, or else each arc, or so many of the worst.
+abbrev pub RunsValuing : Bool → Option ℕ → Reader → Reader → Writer → Writer → Result Status EngineFault → Type 0
+RunsValuing true None = RunsVital AreNodeRows
+RunsValuing false None = RunsVital AreArcRows
+RunsValuing true (Some most) = RunsVital (AreWorstNodeRows most)
+RunsValuing false (Some most) = RunsVital (AreWorstArcRows most)
 
 -- The file at the path was opened, and the program ends as a run on its reader that is so.
 pub record RunsOnFile (Opens : Opening) (path : List ℕ) (Runs : Reader → Reader → Result Status EngineFault → Type 0)
@@ -82,7 +84,7 @@ RunsTask Opens (holding cut brief progress bound path) old new result =
     RunsOn Opens path old new (λ from to. RunsSessionWith (record { cut = cut; brief = brief }) bound from to old new) result
 RunsTask Opens (checking path) old new result =
     RunsOn Opens path old new (λ from to. RunsCheck from to old.reader new.reader old.writer new.writer) result
-RunsTask Opens (valuing nodes progress) old new result = EndsAs (RunsValuing nodes old.reader new.reader old.writer new.writer) result
+RunsTask Opens (valuing nodes worst progress) old new result = EndsAs (RunsValuing nodes worst old.reader new.reader old.writer new.writer) result
 
 -- ---- the program
 

@@ -12,7 +12,7 @@ use dmf_solver::Watch;
 use dmf_solving::{run_check, run_solve_any, run_solve_brief, run_solve_watched};
 use dmf_streams::{EngineFault, Status};
 use dmf_text::{Sink, Source};
-use dmf_valuing::{run_vital, run_vital_nodes};
+use dmf_valuing::{run_vital, run_vital_nodes, run_vital_worst, run_vital_worst_nodes};
 use std::alloc::Global;
 
 /// What a solve is to write.
@@ -68,7 +68,9 @@ pub fn run_program<P: Source + Drop, F: Files<P>, C: Source, W: Sink, V: Session
             let mut problem = files.open(path.as_str())?;
             ended(run_check(alloc, &mut problem, input, out))
         }
-        Mode::Vital { nodes } => ended(run_valuing(alloc, *nodes, input, out, watch)),
+        Mode::Vital { nodes, worst } => {
+            ended(run_valuing(alloc, *nodes, *worst, input, out, watch))
+        }
     }
 }
 
@@ -96,24 +98,30 @@ pub fn run_solving<P: Source, W: Sink, V: Watch>(
     }
 }
 
-/// Writes the greatest value of a problem, and what is left of it without each arc, or without each node.
+/// Writes the greatest value of a problem, and what is left of it without each arc, or without each node, or without so many of the worst.
 ///
 /// Fails as [`run_vital`] does.
 #[inline(never)]
 fn run_valuing<P: Source, W: Sink, V: Watch>(
     alloc: Global,
     nodes: bool,
+    worst: Option<u32>,
     problem: &mut P,
     out: &mut W,
     watch: &mut V,
 ) -> Result<Status, EngineFault>
-    ensures { RunsValuing nodes (P.left problem.old) (P.left problem.new) (W.written out.old) (W.written out.new) result }
+    ensures { RunsValuing nodes worst (P.left problem.old) (P.left problem.new) (W.written out.old) (W.written out.new) result }
 {
-    if nodes {
-        run_vital_nodes(alloc, problem, out, watch)
-    } else {
-        run_vital(alloc, problem, out, watch)
+    if let Some(most) = worst {
+        if nodes {
+            return run_vital_worst_nodes(alloc, most, problem, out, watch);
+        }
+        return run_vital_worst(alloc, most, problem, out, watch);
     }
+    if nodes {
+        return run_vital_nodes(alloc, problem, out, watch);
+    }
+    run_vital(alloc, problem, out, watch)
 }
 
 /// How the program ends whose run ended so.

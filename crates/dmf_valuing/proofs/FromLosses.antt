@@ -1,20 +1,24 @@
--- From losses to the rows of all parts.
-use Rattle.std.proofs.Common.{ℕ, ◌≡◌, ◌+◌, ◌-◌, ◌<◌, ◌≤◌, List, [], ◌∷◌, ap, arith, filter, get_or, length, pos, subst, sym, ⊎_elim, ◌∙◌}
+-- From losses to the rows of all parts, and to those of the worst.
+use Rattle.std.proofs.Common.{ℕ, ◌≡◌, ◌+◌, ◌-◌, ◌<◌, ◌≤◌, List, [], ◌∷◌, ap, arith, filter, get_or, length, map, pos, refl, subst, sym, Option, None, Some, ⊎_elim, ◌∙◌}
 use Rattle.std.proofs.lemmas.Bool.{and_parts, cases_eq, eqb-false, not-true}
 use Rattle.std.proofs.lemmas.Int.{ints}
 use Rattle.std.proofs.lemmas.List.{get_or_default, length-map}
-use Rattle.std.proofs.lemmas.List.Elements.{All-filter, filter_passes}
+use Rattle.std.proofs.lemmas.List.Elements.{All-filter, All-head, All-tail, filter_passes}
 use Rattle.std.proofs.lemmas.List.FromFn.{get_or-range_with_len, length-range_with_len}
-use Rattle.std.specs.List.{All, range_with_len}
+use Rattle.std.specs.List.{All, AllZip, range_with_len}
 use Rattle.dmf_state.specs.Flow.{IsInnerNode, flow_value}
 use Rattle.dmf_state.specs.Network.{Network}
 use Rattle.dmf_solver.specs.Greatest.{IsGreatest}
 use Rattle.dmf_vital.specs.GreatestValue.{IsGreatestValue}
-use Rattle.dmf_vital.specs.Loss.{IsLoss, IsLossAt}
+use Rattle.dmf_vital.specs.Loss.{IsLoss, IsLossAt, IsLossOfArc, IsLossOfNode}
 use Rattle.dmf_vital.specs.Without.{without_arc, without_node}
+use Rattle.dmf_vital.specs.Worst.{AreWorst}
+use Rattle.dmf_vital.specs.declared.worst.NumberedLoss.{NumberedLoss}
 use Rattle.dmf_vital.proofs.Values.{value-is_greatest}
-use Rattle.dmf_valuing.specs.PartRows.{AreLosses, ArePartRows, part_numbers, part_row, part_rows}
-use Rattle.dmf_valuing.specs.Rows.{inner_nodes, is_inner}
+use Rattle.dmf_valuing.specs.PartRows.{AreLosses, ArePartRows, AreWithin, AreWorstParts, IsFound, found_rows, part_numbers, part_row, part_rows, worst_row}
+use Rattle.dmf_valuing.specs.Rows.{AreRowsOfWorst, IsArcRow, IsNodeRow, Row, inner_nodes, is_inner}
+use Rattle.dmf_valuing.specs.declared.parts.Losses.{Losses}
+use Rattle.dmf_valuing.specs.declared.parts.Losses.TheVariants as found
 use Rattle.dmf_valuing.specs.declared.parts.Parts.{Parts}
 use Rattle.dmf_valuing.specs.declared.parts.Parts.TheVariants.{Arcs, Nodes}
 use Rattle.dmf_valuing.proofs.PartRows.{all-kept, row-at}
@@ -40,8 +44,13 @@ inner-at n k inside =
       not_sink = eqb-false v n.sink (not-true _ passes.1);
     }
 
--- A network with a greatest flow of this value, and losses.
-module _ (n : Network) (flows : List ℕ) (value : ℕ) (losses : List ℕ) (greatest : IsGreatest n flows) (value_is : pos value ≡ flow_value n flows) where
+-- What is so of each element of a list relates it to what a function makes of it.
+zip-map : {X : Type 0} (P : X → Type 0) (R : X → Row → Type 0) (f : X → Row) → ((x : X) → P x → R x (f x)) → (xs : List X) → All P xs → AllZip R xs (map f xs)
+zip-map P R f make [] all = tt
+zip-map P R f make (x ∷ xs) all = (make x (All-head P x xs all), zip-map P R f make xs (All-tail P x xs all))
+
+-- A network with a greatest flow of this value.
+module _ (n : Network) (flows : List ℕ) (value : ℕ) (greatest : IsGreatest n flows) (value_is : pos value ≡ flow_value n flows) where
   -- What is left where another network has this loss.
   module _ (m : Network) (loss : ℕ) (is : IsLoss n m loss) where
     left : is.after + loss ≡ value
@@ -65,16 +74,16 @@ module _ (n : Network) (flows : List ℕ) (value : ℕ) (losses : List ℕ) (gre
       (cases_eq v n.source)
 
   -- No loss is larger than the value.
-  pub losses-fit : (parts : Parts) → AreLosses parts n losses → All (λ loss. loss ≤ value) losses
-  losses-fit Arcs are k d below =
+  losses-fit : (parts : Parts) (losses : List ℕ) → AreLosses parts n losses → All (λ loss. loss ≤ value) losses
+  losses-fit Arcs losses are k d below =
       omega (arith, loss-fits (without_arc n (k + 1)) (get_or losses k 0) (are.each k below).1, get_or_default losses k d 0 below)
-  losses-fit Nodes are k d below =
+  losses-fit Nodes losses are k d below =
       let number : IsNumber n.nodes (k + 1) = (omega arith, omega (arith, below, are.one_each)) in
       omega (arith, node-fits (k + 1) (get_or losses k 0) number (are.each k below), get_or_default losses k d 0 below)
 
   -- The rows are those of all parts.
-  pub rows-are : (parts : Parts) → AreLosses parts n losses → ArePartRows parts n (part_rows parts n value losses)
-  rows-are Arcs are =
+  rows-are : (parts : Parts) (losses : List ℕ) → AreLosses parts n losses → ArePartRows parts None n (part_rows parts n value losses)
+  rows-are Arcs losses are =
       let numbers = range_with_len 1 (length losses) in
       let all : part_numbers Arcs n (length losses) ≡ numbers = all-kept n numbers in
       let long : length (part_numbers Arcs n (length losses)) ≡ length losses = ap length all ∙ length-range_with_len 1 (length losses) in
@@ -91,7 +100,7 @@ module _ (n : Network) (flows : List ℕ) (value : ℕ) (losses : List ℕ) (gre
                   ∙ ap (λ i. (k + 1) ∷ (value - get_or losses i 0) ∷ []) back,
             );
       }
-  rows-are Nodes are =
+  rows-are Nodes losses are =
       let same : part_numbers Nodes n (length losses) ≡ inner_nodes n = ap (λ count. filter (is_inner n) (range_with_len 1 count)) are.one_each in
       record {
         one_each = length-map (part_numbers Nodes n (length losses)) (part_row value losses) ∙ ap length same;
@@ -107,3 +116,39 @@ module _ (n : Network) (flows : List ℕ) (value : ℕ) (losses : List ℕ) (gre
               row-at value losses (part_numbers Nodes n (length losses)) k v (omega (arith, inside, ap length same)) (ap (λ l. get_or l k 0) same),
             );
       }
+
+  -- So it is with the worst,
+  worst-fit : (parts : Parts) (most : ℕ) (worst : List NumberedLoss) → AreWorstParts parts most n worst → All (λ (w : NumberedLoss). w.loss ≤ value) worst
+  worst-fit Arcs most worst are k d below =
+      let w : NumberedLoss = get_or worst k d in loss-fits (without_arc n w.number) w.loss (are.losses k d below).1
+  worst-fit Nodes most worst are k d below =
+      let w : NumberedLoss = get_or worst k d in loss-fits (without_node n w.number) w.loss (are.losses k d below).1
+
+  worst-are : (parts : Parts) (most : ℕ) (worst : List NumberedLoss) → AreWorstParts parts most n worst
+      → ArePartRows parts (Some most) n (map (worst_row value) worst)
+  worst-are Arcs most worst are = record {
+    worst = worst;
+    are_worst = are;
+    one_each = zip-map (λ (w : NumberedLoss). IsLossOfArc n w.number w.loss) (λ (w : NumberedLoss) (row : Row). IsArcRow n w.number row) (worst_row value)
+        (λ w is. (value - w.loss, left-is (without_arc n w.number) w.loss is.1, refl)) worst are.losses;
+  }
+  worst-are Nodes most worst are = record {
+    worst = worst;
+    are_worst = are;
+    one_each = zip-map (λ (w : NumberedLoss). IsLossOfNode n w.number w.loss) (λ (w : NumberedLoss) (row : Row). IsNodeRow n w.number row) (worst_row value)
+        (λ w is. (value - w.loss, left-is (without_node n w.number) w.loss is.1, refl)) worst are.losses;
+  }
+
+  -- and so with what was found.
+  pub found-fits : (parts : Parts) (most : Option ℕ) (losses : Losses) → IsFound parts most n losses → AreWithin value losses
+  found-fits parts None (found.All all) are = losses-fit parts all.items are
+  found-fits parts None (found.Worst worst) are = absurd are
+  found-fits parts (Some most) (found.All all) are = absurd are
+  found-fits parts (Some most) (found.Worst worst) are = worst-fit parts most worst.items are
+
+  pub found-are : (parts : Parts) (most : Option ℕ) (losses : Losses) → IsFound parts most n losses
+      → ArePartRows parts most n (found_rows parts n value losses)
+  found-are parts None (found.All all) are = rows-are parts all.items are
+  found-are parts None (found.Worst worst) are = absurd are
+  found-are parts (Some most) (found.All all) are = absurd are
+  found-are parts (Some most) (found.Worst worst) are = worst-are parts most worst.items are

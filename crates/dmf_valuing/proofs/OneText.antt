@@ -1,12 +1,15 @@
--- A network has one value, and one row for each arc and for each node.
-use Rattle.std.proofs.Common.{ℕ, ◌≡◌, ◌∙◌, ◌+◌, ◌<◌, List, [], ◌∷◌, get_or, length, ap, ap₂, arith, sym}
+-- A network has one value, one row for each arc and for each node, and one list of the worst.
+use Rattle.std.proofs.Common.{ℕ, ◌≡◌, ◌∙◌, ◌+◌, ◌<◌, List, [], ◌∷◌, get_or, length, ap, ap₂, arith, refl, subst, sym}
 use Rattle.std.proofs.lemmas.List.{ext_get_or}
+use Rattle.std.specs.List.{AllZip}
 use Rattle.dmf_state.specs.Network.{Network}
 use Rattle.dmf_vital.specs.GreatestValue.{IsGreatestValue}
 use Rattle.dmf_vital.specs.Without.{without_arc, without_node}
+use Rattle.dmf_vital.specs.declared.worst.NumberedLoss.{NumberedLoss}
+use Rattle.dmf_vital.proofs.Ranking.{worst-are_one}
 use Rattle.dmf_vital.proofs.Values.{one-value}
-use Rattle.dmf_valuing.specs.Laws.{ArcsHaveOneText, HaveOneText, NodesHaveOneText}
-use Rattle.dmf_valuing.specs.Rows.{AreArcRows, AreNodeRows, Row, inner_nodes, vital_text}
+use Rattle.dmf_valuing.specs.Laws.{ArcsHaveOneText, HaveOneText, NodesHaveOneText, WorstArcsHaveOneText, WorstNodesHaveOneText}
+use Rattle.dmf_valuing.specs.Rows.{AreArcRows, AreNodeRows, AreRowsOfWorst, AreWorstArcRows, AreWorstNodeRows, IsArcRow, IsNodeRow, Row, inner_nodes, vital_text}
 
 -- An arc or a node has one row, since the network without it has one greatest value,
 one-row : (m : Network) (j : ℕ) (row other : Row) → ((without : ℕ) × IsGreatestValue m without × (row ≡ j ∷ without ∷ []))
@@ -25,6 +28,27 @@ node-rows n rows others are also = ext_get_or [] rows others (are.one_each ∙ s
     let v = get_or (inner_nodes n) k 0 in
     one-row (without_node n v) v _ _ (are.in_order k inside) (also.in_order k inside))
 
+-- Where each number has one row, so has each of a list.
+zip-rows : (IsRowOf : ℕ → Row → Type 0) → ((j : ℕ) (row other : Row) → IsRowOf j row → IsRowOf j other → row ≡ other) → (worst : List NumberedLoss)
+    (rows others : List Row) → AllZip (λ (w : NumberedLoss) (row : Row). IsRowOf w.number row) worst rows
+    → AllZip (λ (w : NumberedLoss) (row : Row). IsRowOf w.number row) worst others → rows ≡ others
+zip-rows IsRowOf one [] [] [] are also = refl
+zip-rows IsRowOf one [] [] (y ∷ ys) are also = absurd also
+zip-rows IsRowOf one [] (x ∷ xs) others are also = absurd are
+zip-rows IsRowOf one (w ∷ ws) [] others are also = absurd are
+zip-rows IsRowOf one (w ∷ ws) (x ∷ xs) [] are also = absurd also
+zip-rows IsRowOf one (w ∷ ws) (x ∷ xs) (y ∷ ys) are also =
+    ap₂ (λ (row : Row) (rows : List Row). row ∷ rows) (one w.number x y are.0 also.0) (zip-rows IsRowOf one ws xs ys are.1 also.1)
+
+-- There is one list of the worst, and so one of their rows.
+worst-rows : (IsLossOf : ℕ → ℕ → Type 0) (IsRowOf : ℕ → Row → Type 0) (most : ℕ)
+    → ((j : ℕ) (row other : Row) → IsRowOf j row → IsRowOf j other → row ≡ other) → (rows others : List Row)
+    → AreRowsOfWorst IsLossOf IsRowOf most rows → AreRowsOfWorst IsLossOf IsRowOf most others → rows ≡ others
+worst-rows IsLossOf IsRowOf most one rows others are also =
+    let same = worst-are_one IsLossOf most also.worst are.worst also.are_worst are.are_worst in
+    zip-rows IsRowOf one are.worst rows others are.one_each
+    (subst (λ (ws : List NumberedLoss). AllZip (λ (w : NumberedLoss) (row : Row). IsRowOf w.number row) ws others) same also.one_each)
+
 -- One value and one list of rows have one text.
 one-text : (AreRows : Network → List Row → Type 0) → ((n : Network) (rows others : List Row) → AreRows n rows → AreRows n others → rows ≡ others)
     → HaveOneText AreRows
@@ -35,3 +59,9 @@ arcs-one-text = one-text AreArcRows arc-rows
 
 pub nodes-one-text : NodesHaveOneText
 nodes-one-text = one-text AreNodeRows node-rows
+
+pub worst_arcs-one-text : WorstArcsHaveOneText
+worst_arcs-one-text most = one-text (AreWorstArcRows most) (λ n. worst-rows _ (IsArcRow n) most (λ j row other. one-row (without_arc n j) j row other))
+
+pub worst_nodes-one-text : WorstNodesHaveOneText
+worst_nodes-one-text most = one-text (AreWorstNodeRows most) (λ n. worst-rows _ (IsNodeRow n) most (λ j row other. one-row (without_node n j) j row other))

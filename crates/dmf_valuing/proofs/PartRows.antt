@@ -1,12 +1,13 @@
 -- The rows of all parts, one by one.
-use Rattle.std.proofs.Common.{ℕ, ◌≡◌, ◌+◌, ◌-◌, ◌<◌, List, [], ◌∷◌, if◌then◌else◌, ap, arith, filter, get_or, length, map, refl, ◌∙◌}
+use Rattle.std.proofs.Common.{ℕ, Bool, true, ◌≡◌, ◌+◌, ◌-◌, ◌<◌, List, [], ◌∷◌, if◌then◌else◌, ap, arith, filter, get_or, length, map, refl, ◌∙◌}
 use Rattle.std.proofs.lemmas.List.{get_or-map}
 use Rattle.std.proofs.lemmas.List.FromFn.{get_or-range_with_len}
 use Rattle.std.specs.List.{range_with_len}
 use Rattle.dmf_state.specs.Network.{Network}
 use Rattle.dmf_text.specs.Written.{written}
 use Rattle.dmf_text.proofs.WrittenLemmas.{kept-one, kept_text}
-use Rattle.dmf_valuing.specs.PartRows.{has_row, part_fields, part_numbers, part_row, part_rows}
+use Rattle.dmf_vital.specs.declared.worst.NumberedLoss.{NumberedLoss}
+use Rattle.dmf_valuing.specs.PartRows.{has_row, part_fields, part_numbers, part_row, part_rows, worst_fields, worst_row}
 use Rattle.dmf_valuing.specs.Rows.{row_fields, row_line, rows_text}
 use Rattle.dmf_valuing.specs.declared.parts.Parts.{Parts}
 use Rattle.dmf_valuing.specs.declared.parts.Parts.TheVariants.{Arcs}
@@ -41,3 +42,20 @@ module _ (parts : Parts) (n : Network) (value : ℕ) (losses : List ℕ) where
       ap (λ j. kept_text (has_row parts n) (part_fields value losses) (j ∷ [])) at
       ∙ kept-one (has_row parts n) (part_fields value losses) (k + 1)
       ∙ ap (λ i. if has_row parts n (k + 1) then row_line ((k + 1) ∷ (value - get_or losses i 0) ∷ []) else []) back
+
+-- The lines of the worst are those of all elements of their list.
+module _ (value : ℕ) where
+  abbrev pub each : NumberedLoss → Bool
+  each w = true
+
+  all-worst : (worst : List NumberedLoss) → map row_fields (map (worst_row value) worst) ≡ map (worst_fields value) (filter each worst)
+  all-worst [] = refl
+  all-worst (w ∷ ws) = ap (λ rest. worst_fields value w ∷ rest) (all-worst ws)
+
+  pub worst-kept : (worst : List NumberedLoss) → rows_text (map (worst_row value) worst) ≡ kept_text each (worst_fields value) worst
+  worst-kept worst = ap written (all-worst worst)
+
+  -- the line of one
+  pub worst-line : (worst : List NumberedLoss) (k : ℕ) (d : NumberedLoss) → kept_text each (worst_fields value) (get_or worst k d ∷ [])
+      ≡ row_line ((get_or worst k d).number ∷ (value - (get_or worst k d).loss) ∷ [])
+  worst-line worst k d = kept-one each (worst_fields value) (get_or worst k d)

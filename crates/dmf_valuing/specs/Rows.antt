@@ -2,12 +2,15 @@
 -- Public: a public contract says no more than this.
 use Rattle.std.specs.Prelude.{ℕ, ◌≡◌, ◌+◌, ◌<◌, ◌==◌, ◌&&◌, not, Bool, List, [], ◌∷◌, ◌++◌, codes, decimal, filter, length, map}
 use Rattle.std.specs.Prelude.{slice_index, slice_index_or}
-use Rattle.std.specs.List.{range_with_len}
+use Rattle.std.specs.List.{AllZip, range_with_len}
 use Rattle.dmf_state.specs.Network.{Network}
 use Rattle.dmf_text.specs.Judging.{Line}
 use Rattle.dmf_text.specs.Written.{written, written_line}
 use Rattle.dmf_vital.specs.GreatestValue.{IsGreatestValue}
+use Rattle.dmf_vital.specs.Loss.{IsLossOfArc, IsLossOfNode}
 use Rattle.dmf_vital.specs.Without.{without_arc, without_node}
+use Rattle.dmf_vital.specs.Worst.{AreWorst}
+use Rattle.dmf_vital.specs.declared.worst.NumberedLoss.{NumberedLoss}
 
 -- ---- rows of numbers
 
@@ -39,6 +42,20 @@ inner_nodes n = filter (is_inner n) (range_with_len 1 n.nodes)
 pub record AreNodeRows (n : Network) (rows : List Row) : Type 0 where
   pub one_each : length rows ≡ length (inner_nodes n)
   pub in_order : (k : ℕ) → k < length (inner_nodes n) → IsNodeRow n (slice_index (inner_nodes n) k) (slice_index_or rows k [])
+
+-- The rows are those of the worst losses, at most so many, in their order.
+pub record AreRowsOfWorst (IsLossOf : ℕ → ℕ → Type 0) (IsRowOf : ℕ → Row → Type 0) (most : ℕ) (rows : List Row) : Type 0 where
+  pub worst : List NumberedLoss
+  pub are_worst : AreWorst IsLossOf most worst
+  pub one_each : AllZip (λ w row. IsRowOf w.number row) worst rows
+
+-- those of the arcs without which most is lost
+abbrev pub AreWorstArcRows : ℕ → Network → List Row → Type 0
+AreWorstArcRows most n = AreRowsOfWorst (IsLossOfArc n) (IsArcRow n) most
+
+-- those of the nodes but the source and the sink without which most is lost
+abbrev pub AreWorstNodeRows : ℕ → Network → List Row → Type 0
+AreWorstNodeRows most n = AreRowsOfWorst (IsLossOfNode n) (IsNodeRow n) most
 
 -- ---- what is written
 

@@ -1,4 +1,4 @@
-ghost use Rattle.dmf_valuing.specs.Laws.{ArcsHaveOneText, NodesHaveOneText};
+ghost use Rattle.dmf_valuing.specs.Laws.{ArcsHaveOneText, NodesHaveOneText, WorstArcsHaveOneText, WorstNodesHaveOneText};
 
 /// The law that the problem determines what a run writes that values each arc.
 pub fn arcs_have_one_text()
@@ -8,4 +8,14 @@ pub fn arcs_have_one_text()
 /// The law that the problem determines what a run writes that values each node.
 pub fn nodes_have_one_text()
     ensures { NodesHaveOneText }
+{}
+
+/// The law that the problem determines what a run writes that lists the worst arcs.
+pub fn worst_arcs_have_one_text()
+    ensures { WorstArcsHaveOneText }
+{}
+
+/// The law that the problem determines what a run writes that lists the worst nodes.
+pub fn worst_nodes_have_one_text()
+    ensures { WorstNodesHaveOneText }
 {}

@@ -1,8 +1,10 @@
 //! Runs that tell what a network can carry without each of its parts, from bytes to bytes.
 #![tactic(auto)]
 
-pub use laws::{arcs_have_one_text, nodes_have_one_text};
-pub use vital::{run_vital, run_vital_nodes};
+pub use laws::{
+    arcs_have_one_text, nodes_have_one_text, worst_arcs_have_one_text, worst_nodes_have_one_text,
+};
+pub use vital::{run_vital, run_vital_nodes, run_vital_worst, run_vital_worst_nodes};
 
 mod laws;
 mod parts;

@@ -1,11 +1,11 @@
 //! The parts of a network that a run values.
 ghost use Rattle.std.specs.Prelude.{◌≡◌, IfOk};
 ghost use Rattle.dmf_solver.specs.Greatest.{IsGreatest};
-ghost use Rattle.dmf_valuing.specs.PartRows.{AreLosses, has_row};
+ghost use Rattle.dmf_valuing.specs.PartRows.{AreLosses, AreWorstParts, IsFound, has_row};
 ghost use Rattle.dmf_valuing.specs.Rows.{is_inner};
 
 use dmf_state::{NoMemory, State};
-use dmf_vital::{arc_losses, node_losses};
+use dmf_vital::{NumberedLoss, arc_losses, node_losses, worst_arcs, worst_nodes};
 use std::alloc::Global;
 
 /// Which parts have rows.
@@ -17,9 +17,51 @@ pub enum Parts {
     Nodes,
 }
 
+/// What is lost without parts.
+#[derive(Drop)]
+pub enum Losses {
+    /// Without each part, in order. A node without a row has its place too.
+    All(Vec<u64>),
+    /// Without each of the worst.
+    Worst(Vec<NumberedLoss>),
+}
+
+/// What is lost without each part, or without at most so many of the worst, of a state whose flow is greatest. Fails only if memory is
+/// refused.
+pub fn find_losses(
+    alloc: Global,
+    parts: Parts,
+    most: Option<u32>,
+    state: &State,
+) -> Result<Losses, NoMemory>
+    requires { IsGreatest state.now.network state.now.flows }
+    ensures { IfOk result (IsFound parts most state.now.network) }
+{
+    match most {
+        None => Ok(Losses::All(losses_of(alloc, parts, state)?)),
+        Some(most) => Ok(Losses::Worst(worst_of(alloc, parts, most as usize, state)?)),
+    }
+}
+
+/// The worst losses, at most so many, of a state whose flow is greatest. Fails only if memory is refused.
+fn worst_of(
+    alloc: Global,
+    parts: Parts,
+    most: usize,
+    state: &State,
+) -> Result<Vec<NumberedLoss>, NoMemory>
+    requires { IsGreatest state.now.network state.now.flows }
+    ensures { IfOk result (λ worst. AreWorstParts parts most state.now.network worst.items) }
+{
+    match parts {
+        Parts::Arcs => worst_arcs(alloc, state, most),
+        Parts::Nodes => worst_nodes(alloc, state, most),
+    }
+}
+
 /// What is lost without each part, in order, of a state whose flow is greatest. A node without a row has its place too. Fails only if
 /// memory is refused.
-pub fn losses_of(alloc: Global, parts: Parts, state: &State) -> Result<Vec<u64>, NoMemory>
+fn losses_of(alloc: Global, parts: Parts, state: &State) -> Result<Vec<u64>, NoMemory>
     requires { IsGreatest state.now.network state.now.flows }
     ensures { IfOk result (λ losses. AreLosses parts state.now.network losses.items) }
 {

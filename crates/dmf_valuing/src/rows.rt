@@ -1,31 +1,62 @@
 //! Writing a greatest value, and what is left of it without each part.
-ghost use Rattle.std.specs.Prelude.{◌≡◌, ◌≤◌, if◌then◌else◌, All};
+ghost use Rattle.std.specs.Prelude.{◌≡◌, ◌≤◌, if◌then◌else◌, All, map};
 ghost use Rattle.dmf_text.specs.Writing.{Writes};
-ghost use Rattle.dmf_valuing.specs.PartRows.{part_rows};
+ghost use Rattle.dmf_valuing.specs.PartRows.{AreWithin, found_rows, part_rows, worst_row};
 ghost use Rattle.dmf_valuing.specs.Rows.{row_line, rows_text, value_line, vital_text};
 ghost use Rattle.std.specs.Prelude.{◌∷◌, []};
 
-use crate::parts::{Parts, has_row};
+use crate::parts::{Losses, Parts, has_row};
 use dmf_state::State;
 use dmf_streams::write_line;
 use dmf_text::LineField::{Number, Text};
 use dmf_text::{LineBuffer, Sink, WriteFault, line_of};
+use dmf_vital::NumberedLoss;
 
-/// Writes the value as `c value V`, and then for each part of the state's network its number and what is left of the value without it, by
-/// what is lost.
+/// Writes the value as `c value V`, and then for each part of the state's network, or for each of the worst, its number and what is left of
+/// the value without it, by what is lost.
 pub fn write_vital<W: Sink>(
     value: u64,
     parts: Parts,
     state: &State,
-    losses: &[u64],
+    losses: &Losses,
     out: &mut W,
 ) -> Result<(), WriteFault>
-    requires { All (λ loss. loss ≤ value) losses.now }
+    requires { AreWithin value losses.now }
     ensures { Writes (W.written out.old) (W.written out.new) result
-        (vital_text value (part_rows parts state.now.network value losses.now)) }
+        (vital_text value (found_rows parts state.now.network value losses.now)) }
 {
     write_line(&value_line(value), out)?;
-    write_rows(value, parts, state, losses, out)
+    write_found(value, parts, state, losses, out)
+}
+
+/// Writes for each part, or for each of the worst, its number and what is left of the value without it, by what is lost.
+fn write_found<W: Sink>(
+    value: u64,
+    parts: Parts,
+    state: &State,
+    losses: &Losses,
+    out: &mut W,
+) -> Result<(), WriteFault>
+    requires { AreWithin value losses.now }
+    ensures { Writes (W.written out.old) (W.written out.new) result (rows_text (found_rows parts state.now.network value losses.now)) }
+{
+    match losses {
+        Losses::All(losses) => write_rows(value, parts, state, losses, out),
+        Losses::Worst(worst) => write_worst(value, worst, out),
+    }
+}
+
+/// Writes for each of the worst its number and what is left of the value without it, by what is lost.
+fn write_worst<W: Sink>(value: u64, worst: &[NumberedLoss], out: &mut W) -> Result<(), WriteFault>
+    requires { All (λ w. w.loss ≤ value) worst.now }
+    ensures { Writes (W.written out.old) (W.written out.new) result (rows_text (map (worst_row value) worst.now)) }
+{
+    for k in 0..worst.len() {
+        let number = u64::from(worst[k].number);
+        let left = value - worst[k].loss;
+        write_line(&row_line(number, left), out)?;
+    }
+    Ok(())
 }
 
 /// `c value V`

@@ -1,11 +1,13 @@
 -- Making chains in one pass over the arcs.
-use Rattle.std.proofs.Common.{ℕ, ◌≡◌, ◌≢◌, ◌+◌, ◌-◌, ◌<◌, Bool, List, length, get_or, set, true, false, ap, sym, ◌∙◌, arith, ⊎_elim}
+use Rattle.std.proofs.Common.{ℕ, ◌≡◌, ◌≢◌, ◌+◌, ◌-◌, ◌<◌, ◌≤◌, Bool, List, length, get_or, set, true, false, ap, sym, ◌∙◌, arith, ⊎_elim}
 use Rattle.std.specs.List.{All}
 use Rattle.std.proofs.lemmas.Bool.{cases_eq}
+use Rattle.std.proofs.lemmas.Bool.Decides.{nat_tests}
 use Rattle.std.proofs.lemmas.List.{get_or-set_same, get_or-set_other, length-set, get_or_read}
 use Rattle.dmf_node.specs.Node.{IsNode}
 use Rattle.dmf_state.specs.declared.arc.Arc.{Arc}
 use Rattle.dmf_state.specs.Arc.{IsArc, no_arc}
+use Rattle.dmf_state.specs.Network.{Network, has_arc}
 use Rattle.dmf_vital.specs.Chains.{IsLastBelow}
 use Rattle.dmf_vital.specs.Hop.{from_of, to_of}
 
@@ -81,3 +83,7 @@ chains-next against nodes arcs k v old last before h all is read so_far =
     let first : old ≡ get_or last (from_of against (get_or arcs k no_arc) - 1) 0 =
     get_or_read last (v - 1) old within read 0 ∙ ap (λ u. get_or last (u - 1) 0) is in
     rw (is, first) (chains-more against nodes arcs k last before h node so_far)
+
+-- There is an arc of each number from 1 to the number of arcs.
+pub has-arc : (n : Network) (k : ℕ) → 0 < k → k ≤ length n.arcs → has_arc n k ≡ true
+has-arc n k some most = grind (arith, nat_tests)

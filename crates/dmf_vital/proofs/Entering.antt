@@ -8,7 +8,7 @@ use Rattle.dmf_vital.specs.declared.tree.Reached.{Reached}
 use Rattle.dmf_vital.specs.Chains.{AreChains}
 use Rattle.dmf_vital.specs.Exits.{AreExits}
 use Rattle.dmf_vital.specs.Tree.{IsGrown, AreBehind, IsEntered, KeepsReached}
-use Rattle.dmf_vital.proofs.Growing.{entered-kept}
+use Rattle.dmf_vital.proofs.Keeping.{entered-kept}
 use Rattle.dmf_vital.proofs.Summed.{exit-only, exit-tail}
 
 -- The exits past the present arc enter reached nodes.

@@ -22,7 +22,7 @@ use Rattle.dmf_vital.specs.Laws.{NodeLossIsAtMostFlow, HeldNodeFlowIsLost}
 use Rattle.dmf_vital.specs.Loss.{IsLossOfNode}
 use Rattle.dmf_vital.specs.Through.{flow_through, part_off}
 use Rattle.dmf_vital.specs.Without.{shut_arc, without_node}
-use Rattle.dmf_vital.proofs.Growing.{has-arc}
+use Rattle.dmf_vital.proofs.Chained.{has-arc}
 use Rattle.dmf_vital.proofs.Shutting.{network-shut, some-node_loss}
 use Rattle.dmf_vital.proofs.Values.{value-is_greatest, value-of_greatest}
 

@@ -7,7 +7,11 @@ pub mod HeldNode
 pub mod Least
 pub mod Chained
 pub mod Listed
+pub mod Keeping
 pub mod Growing
+pub mod Expanding
+pub mod Crossing
+pub mod ExitHeads
 pub mod Level
 pub mod Summed
 pub mod Entering
@@ -17,3 +21,4 @@ pub mod Stuck
 pub mod Lost
 pub mod Second
 pub mod Ranking
+pub mod Entered

@@ -23,7 +23,7 @@ use Rattle.dmf_vital.specs.Ranks.{is_across}
 use Rattle.dmf_vital.specs.Shifted.{amount_at, AreShifted, HasSteps, KeepsOthers}
 use Rattle.dmf_vital.specs.Tree.{not_reached, at_node, back_of, place_of, room_over, AreListed, IsBegun, IsReachedBy}
 use Rattle.dmf_vital.proofs.Chained.{node-from}
-use Rattle.dmf_vital.proofs.Growing.{from-turned, to-turned}
+use Rattle.dmf_vital.proofs.Crossing.{from-turned, to-turned}
 use Rattle.dmf_vital.proofs.Level.{barred-exit, barred-parts}
 
 -- Setting the flow on an arc that is not barred keeps those on the barred arcs.

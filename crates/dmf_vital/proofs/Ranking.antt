@@ -1,18 +1,48 @@
--- The first of the worst arcs.
-use Rattle.std.proofs.Common.{ℕ, zero, suc, ◌≡◌, ◌<◌, ◌≤◌, List, ◌∷◌, length, get_or, ap, subst, arith, ⊎_elim}
+-- Lists of the worst losses: the first of them, and that there is one such list.
+use Rattle.std.proofs.Common.{ℕ, zero, suc, ◌≡◌, ◌-◌, ◌<◌, ◌≤◌, ◌⊎◌, inl, inr, List, [], ◌∷◌, length, get_or, ap, ap₂, refl, sym, subst, arith, ⊎_elim}
+use Rattle.std.proofs.lemmas.Bool.{cases_lt}
+use Rattle.std.proofs.lemmas.List.Elements.{All-tail}
 use Rattle.std.specs.List.{Contains, All, AllPairs}
 use Rattle.dmf_vital.specs.Laws.{WorstIsMostVital}
-use Rattle.dmf_vital.specs.Worst.{NumberedLoss, IsWorse}
+use Rattle.dmf_vital.specs.declared.worst.NumberedLoss.{NumberedLoss}
+use Rattle.dmf_vital.specs.Worst.{AreWorst, IsWorse}
+
+-- A loss that is no smaller, and has the smaller number, is worse.
+pub worse-from : (a b : NumberedLoss) → b.loss ≤ a.loss → a.number < b.number → IsWorse a b
+worse-from a b le lt = ⊎_elim (λ (less : b.loss < a.loss). inl less) (λ (not_less : a.loss ≤ b.loss). inr (omega (arith, le, not_less), lt)) (cases_lt b.loss a.loss)
+
+-- What is worse than a worse one is worse,
+pub worse-trans : (a b c : NumberedLoss) → IsWorse a b → IsWorse b c → IsWorse a c
+worse-trans a b c ab bc = ⊎_elim
+    (λ (less : b.loss < a.loss). ⊎_elim
+    (λ (also : c.loss < b.loss). inl (omega (arith, less, also)))
+    (λ (same : (b.loss ≡ c.loss) × (b.number < c.number)). inl (omega (arith, less, same.0))) bc)
+    (λ (same : (a.loss ≡ b.loss) × (a.number < b.number)). ⊎_elim
+    (λ (less : c.loss < b.loss). inl (omega (arith, less, same.0)))
+    (λ (also : (b.loss ≡ c.loss) × (b.number < c.number)). inr (omega (arith, same.0, also.0), omega (arith, same.1, also.1))) bc) ab
+
+-- and none is worse than itself.
+worse-not : (a : NumberedLoss) → IsWorse a a → ⊥
+worse-not a worse = ⊎_elim (λ (less : a.loss < a.loss). absurd (omega (arith, less)))
+    (λ (same : (a.loss ≡ a.loss) × (a.number < a.number)). absurd (omega (arith, same.1))) worse
 
 -- What is worse has no smaller loss.
-worse-le : (a b : NumberedLoss) → IsWorse a b → b.loss ≤ a.loss
+pub worse-le : (a b : NumberedLoss) → IsWorse a b → b.loss ≤ a.loss
 worse-le a b worse = ⊎_elim (λ (less : b.loss < a.loss). omega (arith, less)) (λ (same : (a.loss ≡ b.loss) × (a.number < b.number)). omega (arith, same.0)) worse
 
--- A listed loss is at most the first.
-listed-le : (first : NumberedLoss) (rest : List NumberedLoss) (one : NumberedLoss) → AllPairs IsWorse (first ∷ rest) → (k : ℕ) → k < length (first ∷ rest)
-    → get_or (first ∷ rest) k one ≡ one → one.loss ≤ first.loss
-listed-le first rest one order zero h is = omega (arith, ap (λ (w : NumberedLoss). w.loss) is)
-listed-le first rest one order (suc k) h is = worse-le first one (subst (IsWorse first) is (order 0 (suc k) one (omega arith) h))
+-- A listed loss is the first, or the first is worse.
+listed-first : (first : NumberedLoss) (rest : List NumberedLoss) (one : NumberedLoss) → AllPairs IsWorse (first ∷ rest) → (k : ℕ)
+    → k < length (first ∷ rest) → get_or (first ∷ rest) k one ≡ one → (first ≡ one) ⊎ IsWorse first one
+listed-first first rest one order zero h is = inl is
+listed-first first rest one order (suc k) h is = inr (subst (λ (w : NumberedLoss). IsWorse first w) is (order 0 (suc k) one (omega arith) h))
+
+-- So is each loss of which there is such a list.
+all-first : (P : ℕ → ℕ → Type 0) (most : ℕ) (first : NumberedLoss) (rest : List NumberedLoss) (one : NumberedLoss) → AreWorst P most (first ∷ rest)
+    → P one.number one.loss → (first ≡ one) ⊎ IsWorse first one
+all-first P most first rest one are is = ⊎_elim
+    (λ (listed : Contains (first ∷ rest) one). listed-first first rest one are.in_order listed.0 listed.1 listed.2)
+    (λ (past : (length (first ∷ rest) ≡ most) × All (λ (w : NumberedLoss). IsWorse w one) (first ∷ rest)). inr (past.1 0 first (omega arith)))
+    (are.others one is)
 
 -- The first of the list has the greatest loss.
 pub worst-most_vital : WorstIsMostVital
@@ -20,8 +50,64 @@ worst-most_vital n most first rest are = record {
   own = are.losses 0 first (omega arith);
   most = λ i other is.
       let one : NumberedLoss = record { number = i; loss = other } in
-      ⊎_elim
-      (λ (listed : Contains (first ∷ rest) one). listed-le first rest one are.in_order listed.0 listed.1 listed.2)
-      (λ (past : (length (first ∷ rest) ≡ most) × All (λ w. IsWorse w one) (first ∷ rest)). worse-le first one (past.1 0 first (omega arith)))
-      (are.others one is);
+      ⊎_elim (λ (same : first ≡ one). omega (arith, ap (λ (w : NumberedLoss). w.loss) same)) (λ (worse : IsWorse first one). worse-le first one worse)
+      (all-first _ most first rest one are is);
 }
+
+-- ---- one list
+
+-- These losses without one.
+abbrev Other : (ℕ → ℕ → Type 0) → NumberedLoss → ℕ → ℕ → Type 0
+Other P first j loss = P j loss × (j ≡ first.number → loss ≡ first.loss → ⊥)
+
+-- A listed loss that is not the first is one of the rest.
+listed-rest : (first : NumberedLoss) (rest : List NumberedLoss) (one : NumberedLoss) → (one.number ≡ first.number → one.loss ≡ first.loss → ⊥) → (k : ℕ)
+    → k < length (first ∷ rest) → get_or (first ∷ rest) k one ≡ one → Contains rest one
+listed-rest first rest one apart zero h is = absurd (apart (ap (λ (w : NumberedLoss). w.number) (sym is)) (ap (λ (w : NumberedLoss). w.loss) (sym is)))
+listed-rest first rest one apart (suc k) h is = (k, omega (arith, h), is)
+
+-- Without the first the rest are the worst.
+rest-worst : (P : ℕ → ℕ → Type 0) (most : ℕ) (first : NumberedLoss) (rest : List NumberedLoss) → AreWorst P most (first ∷ rest)
+    → AreWorst (Other P first) (most - 1) rest
+rest-worst P most first rest are = record {
+  losses = λ i d h. (
+    are.losses (suc i) d (omega (arith, h)),
+    λ number loss.
+        let worse : IsWorse first (get_or rest i d) = are.in_order 0 (suc i) d (omega arith) (omega (arith, h)) in
+        ⊎_elim (λ (less : (get_or rest i d).loss < first.loss). absurd (omega (arith, less, loss)))
+        (λ (same : (first.loss ≡ (get_or rest i d).loss) × (first.number < (get_or rest i d).number)). absurd (omega (arith, same.1, number))) worse,
+  );
+  in_order = λ i j d lt h. are.in_order (suc i) (suc j) d (omega (arith, lt)) (omega (arith, h));
+  at_most = omega (arith, are.at_most);
+  others = λ other is. ⊎_elim
+      (λ (listed : Contains (first ∷ rest) other). inl (listed-rest first rest other is.1 listed.0 listed.1 listed.2))
+      (λ (past : (length (first ∷ rest) ≡ most) × All (λ (w : NumberedLoss). IsWorse w other) (first ∷ rest)).
+      inr (omega (arith, past.0), All-tail (λ (w : NumberedLoss). IsWorse w other) first rest past.1))
+      (are.others other is.0);
+}
+
+-- There are no worst losses only if there are no losses, or none are asked for.
+none-worst : (P : ℕ → ℕ → Type 0) (most : ℕ) (first : NumberedLoss) (rest : List NumberedLoss) → AreWorst P most [] → AreWorst P most (first ∷ rest) → ⊥
+none-worst P most first rest none are = ⊎_elim
+    (λ (listed : Contains [] first). absurd (omega (arith, listed.1)))
+    (λ (past : (length {A = NumberedLoss} [] ≡ most) × All (λ (w : NumberedLoss). IsWorse w first) []). absurd (omega (arith, past.0, are.at_most)))
+    (none.others first (are.losses 0 first (omega arith)))
+
+-- Of two such lists the first losses are the same.
+same-first : (P : ℕ → ℕ → Type 0) (most : ℕ) (x : NumberedLoss) (xs : List NumberedLoss) (y : NumberedLoss) (ys : List NumberedLoss)
+    → AreWorst P most (x ∷ xs) → AreWorst P most (y ∷ ys) → x ≡ y
+same-first P most x xs y ys are also = ⊎_elim (λ (same : x ≡ y). same)
+    (λ (worse : IsWorse x y). ⊎_elim (λ (same : y ≡ x). sym same)
+    (λ (back : IsWorse y x). absurd (worse-not x (worse-trans x y x worse back)))
+    (all-first P most y ys x also (are.losses 0 x (omega arith))))
+    (all-first P most x xs y are (also.losses 0 y (omega arith)))
+
+-- So there is only one such list.
+pub worst-are_one : (P : ℕ → ℕ → Type 0) (most : ℕ) (worst other : List NumberedLoss) → AreWorst P most worst → AreWorst P most other → worst ≡ other
+worst-are_one P most [] [] are also = refl
+worst-are_one P most [] (y ∷ ys) are also = absurd (none-worst P most y ys are also)
+worst-are_one P most (x ∷ xs) [] are also = absurd (none-worst P most x xs also are)
+worst-are_one P most (x ∷ xs) (y ∷ ys) are also =
+    let first = same-first P most x xs y ys are also in
+    let others = subst (λ (w : NumberedLoss). AreWorst (Other P w) (most - 1) ys) (sym first) (rest-worst P most y ys also) in
+    ap₂ (λ (w : NumberedLoss) (ws : List NumberedLoss). w ∷ ws) first (worst-are_one (Other P x) (most - 1) xs ys (rest-worst P most x xs are) others)

@@ -18,7 +18,7 @@ use Rattle.dmf_vital.specs.Hop.{from_of, to_of, room_of}
 use Rattle.dmf_vital.specs.Ranks.{AreRanks, is_across, rank_of}
 use Rattle.dmf_vital.specs.Shifted.{HoldsExits}
 use Rattle.dmf_vital.specs.Tree.{place_of, back_of, AreEntered, IsExpanded, IsGrown}
-use Rattle.dmf_vital.proofs.Growing.{has-arc}
+use Rattle.dmf_vital.proofs.Chained.{has-arc}
 use Rattle.dmf_vital.proofs.Level.{same-level}
 use Rattle.dmf_vital.proofs.Summed.{exit-tail}
 

@@ -19,7 +19,7 @@ use Rattle.dmf_vital.specs.declared.exits.Exits.{Exits}
 use Rattle.dmf_vital.specs.Chains.{AreChains}
 use Rattle.dmf_vital.specs.Exits.{AreExits, is_exit, exit_flow}
 use Rattle.dmf_vital.specs.Through.{flow_through, part_off}
-use Rattle.dmf_vital.proofs.Growing.{has-arc}
+use Rattle.dmf_vital.proofs.Chained.{has-arc}
 
 -- ---- the ends of an exit
 

@@ -11,7 +11,8 @@ use Rattle.dmf_vital.specs.Kept.{HoldsTail, HoldsNode}
 use Rattle.dmf_vital.specs.Loss.{IsLoss, IsLossOfArc, IsLossOfNode, IsGainOfSecond, IsMostVital}
 use Rattle.dmf_vital.specs.Through.{flow_through}
 use Rattle.dmf_vital.specs.Without.{without_arc, without_node, with_second}
-use Rattle.dmf_vital.specs.Worst.{NumberedLoss, AreWorst}
+use Rattle.dmf_vital.specs.Worst.{AreWorst}
+use Rattle.dmf_vital.specs.declared.worst.NumberedLoss.{NumberedLoss}
 
 -- ---- values and losses
 

@@ -11,3 +11,4 @@ pub mod Exits
 pub mod Chains
 pub mod Tree
 pub mod Shifted
+pub mod Entering

@@ -7,6 +7,7 @@ pub use laws::{
     shutting_leaves_out, worst_is_most_vital,
 };
 pub use loss::{arc_losses, node_losses, value_without_arc, value_without_node};
+pub use worst::{NumberedLoss, worst_arcs, worst_nodes};
 
 mod chains;
 mod cursor;
@@ -20,3 +21,4 @@ mod ranks;
 mod rerouting;
 mod search;
 mod tree;
+mod worst;

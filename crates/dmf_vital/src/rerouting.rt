@@ -8,7 +8,7 @@ ghost use Rattle.dmf_vital.specs.Exits.{AreExits, exit_flow};
 ghost use Rattle.dmf_vital.specs.Loss.{IsLossAt, IsLossOfArc, IsLossOfNode};
 ghost use Rattle.dmf_vital.specs.Ranks.{AreRanks};
 ghost use Rattle.dmf_vital.specs.Shifted.{IsReady, IsMoved, IsLeft};
-ghost use Rattle.dmf_vital.specs.Through.{part_off};
+ghost use Rattle.dmf_vital.specs.Through.{flow_through, part_off};
 
 use crate::chains::{Chains, make_chains};
 use crate::exits::Exits;
@@ -109,6 +109,20 @@ pub fn loss_of_node(
         ranks,
     };
     left_on(state, rerouting, exits)
+}
+
+/// What flows through node `v`.
+pub fn flow_through(state: &State, rerouting: &Rerouting, ranks: &[u32], v: u32) -> u64
+    requires inner { IsInnerNode state.now.network v }
+    requires ready { IsReady state.now rerouting.now }
+    ensures { result ≡ flow_through state.now.network rerouting.now.flows.items v }
+{
+    let exits = Exits {
+        node: v,
+        arc: 0,
+        ranks,
+    };
+    flow_on_exits(state, &rerouting.along, exits, &rerouting.flows)
 }
 
 /// Finds what is lost without node `v`, or 0 if it is the source or the sink.

@@ -3,7 +3,10 @@ ghost use Rattle.dmf_solver.specs.Greatest.{IsGreatest};
 
 use dmf_solver::{is_greatest, plan_close, plan_shut, plan_solve};
 use dmf_state::State;
-use dmf_vital::{arc_losses, node_losses, value_without_arc, value_without_node};
+use dmf_vital::{
+    NumberedLoss, arc_losses, node_losses, value_without_arc, value_without_node, worst_arcs,
+    worst_nodes,
+};
 use std::alloc::Global;
 use std::test::Fail;
 
@@ -111,6 +114,62 @@ fn losses_of_nodes_are_what_shutting_tells(rt: HostRuntime) -> Result<(), Fail> 
     Ok(())
 }
 
+/// How many of the losses, which are numbered from 1, are worse than this one. Those of two nodes are left out.
+fn rank(losses: &[u64], out: [u64; 2], one: NumberedLoss) -> usize {
+    let mut worse: usize = 0;
+    for (k, loss) in losses.iter().enumerate() {
+        let number = k as u64 + 1;
+        let is_worse = *loss > one.loss || (*loss == one.loss && number < u64::from(one.number));
+        if is_worse && number != out[0] && number != out[1] {
+            worse = worse.saturating_add(1);
+        }
+    }
+    worse
+}
+
+/// Whether the worst are the first of `count` losses in order.
+fn are_first(losses: &[u64], out: [u64; 2], worst: &[NumberedLoss], count: usize) -> bool {
+    if worst.len() != count {
+        return false;
+    }
+    for (k, one) in worst.iter().enumerate() {
+        let number = u64::from(one.number);
+        let is_out = number == out[0] || number == out[1];
+        let has_loss = number > 0 && losses.get((number - 1) as usize).copied() == Some(one.loss);
+        if is_out || !has_loss || rank(losses, out, *one) != k {
+            return false;
+        }
+    }
+    true
+}
+
+#[test]
+fn the_worst_are_the_first_of_all(rt: HostRuntime) -> Result<(), Fail> {
+    for seed in 0..1_000 {
+        let mut state = network(rt.alloc(), seed)?;
+        solve(rt.alloc(), &mut state)?;
+        if !is_greatest(rt.alloc(), &state)? {
+            return Err(Fail::from("the solved flow is not greatest"));
+        }
+        let most = (seed % 9) as usize;
+        let losses = arc_losses(rt.alloc(), &state)?;
+        let worst = worst_arcs(rt.alloc(), &state, most)?;
+        assert!(rt; are_first(&losses, [0, 0], &worst, most.min(losses.len())));
+        let ends = [u64::from(state.source()), u64::from(state.sink())];
+        let losses = node_losses(rt.alloc(), &state)?;
+        let worst = worst_nodes(rt.alloc(), &state, most)?;
+        assert!(rt;
+            are_first(
+                &losses,
+                ends,
+                &worst,
+                most.min(losses.len().saturating_sub(2))
+            )
+        );
+    }
+    Ok(())
+}
+
 #[test]
 fn losses_are_what_closing_tells(rt: HostRuntime) -> Result<(), Fail> {
     for seed in 0..1_000 {
@@ -136,6 +195,11 @@ fn the_example(rt: HostRuntime) -> Result<(), Fail> {
     }
     let losses = arc_losses(rt.alloc(), &state)?;
     assert!(rt; losses.as_slice() == [3, 2, 1, 2, 3].as_slice());
+    let worst = worst_arcs(rt.alloc(), &state, 3)?;
+    let one = NumberedLoss { number: 1, loss: 3 };
+    let two = NumberedLoss { number: 5, loss: 3 };
+    let three = NumberedLoss { number: 2, loss: 2 };
+    assert!(rt; worst.as_slice() == [one, two, three].as_slice());
     if state.arcs().len() == 5 {
         assert!(rt; value_without_arc(rt.alloc(), &state, 3)? == 4);
     }

@@ -164,8 +164,19 @@ fn number_of(asked: &Result<Mode, WordsFault>) -> u32 {
             },
         ) => 2,
         Ok(Mode::Check { problem: _ }) => 3,
-        Ok(Mode::Vital { nodes: false }) => 4,
-        Ok(Mode::Vital { nodes: true }) => 5,
+        Ok(
+            Mode::Vital {
+                nodes: false,
+                worst: None,
+            },
+        ) => 4,
+        Ok(
+            Mode::Vital {
+                nodes: true,
+                worst: Some(_),
+            },
+        ) => 5,
+        Ok(Mode::Vital { nodes: _, worst: _ }) => 6,
         Err(WordsFault::Help(_)) => 11,
         Err(WordsFault::Usage(_)) => 12,
         Err(WordsFault::NoMemory) => 13,
@@ -178,7 +189,7 @@ const WORDS: [(&str, u32); 8] = [
     ("session --cut P", 2),
     ("check P", 3),
     ("vital", 4),
-    ("vital --nodes", 5),
+    ("vital --nodes --worst 3", 5),
     ("--help", 11),
     ("--version", 11),
     ("wash", 12),

@@ -5,4 +5,5 @@ use Rattle.dmf_arguments.proofs.words.vital.Goals as goal
 pub returns : goal.returns
 returns c =
     let nodes = line_with c.in_ok-arg.ensures c.flag.ensures c.named.ensures in
-    IfOk-weaker c.arg-2.result _ _ (λ made adds. line_with adds c.flag-2.ensures nodes) c.arg-2.ensures
+    let progress = line_with c.in_ok-arg-2.ensures c.flag-2.ensures nodes in
+    IfOk-weaker c.arg-3.result _ _ (λ made adds. line_with adds c.worst.ensures progress) c.arg-3.ensures

@@ -47,3 +47,7 @@ returns-in_err-problem-in-Check g c =
       result_is = refl;
       untouched = refl;
     }))
+
+pub returns-in-Vital : goal.returns-in-Vital
+returns-in-Vital g c =
+    rw c.in-Vital.is (record { outcome = c.run_valuing.result; runs = c.run_valuing.ensures; result_is = c.ended-in-Vital.ensures })

@@ -12,7 +12,8 @@ use Rattle.dmf_vital.specs.declared.tree.Reached.{Reached}
 use Rattle.dmf_vital.specs.Exits.{is_exit, is_exit_arc}
 use Rattle.dmf_vital.specs.Ranks.{is_across}
 use Rattle.dmf_vital.specs.Tree.{not_reached, back_of, place_of}
-use Rattle.dmf_vital.proofs.Growing.{both-ok, both-err, on-ok, entered-grown, entered-keeps, entered-behind, entered-now}
+use Rattle.dmf_vital.proofs.Growing.{both-ok, both-err, on-ok}
+use Rattle.dmf_vital.proofs.ExitHeads.{entered-grown, entered-keeps, entered-behind, entered-now}
 use Rattle.dmf_vital.proofs.Summed.{exit-head}
 use Rattle.dmf_vital.proofs.search.enter_over.Goals.{After-is_exit-exit, After-reach, then-flow-eq0-via-then-flow-eq0, then-flow-eq0-via-else-flow-eq0+then-not-exit, then-flow-eq0-via-else-flow-eq0+else-not-exit+then-index-gt0}
 use Rattle.dmf_vital.proofs.search.enter_over.Goals as goal

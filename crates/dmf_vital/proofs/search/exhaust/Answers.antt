@@ -2,7 +2,9 @@ use Rattle.std.proofs.Common.{◌≡◌, ◌<◌, length, ap, sym, ◌∙◌, su
 use Rattle.dmf_vital.specs.declared.hop.Hop.{Hop}
 use Rattle.dmf_vital.specs.Hop.{turned}
 use Rattle.dmf_vital.specs.Tree.{IsCrossing}
-use Rattle.dmf_vital.proofs.Growing.{bridge-crossing, entered-kept, expanded-all}
+use Rattle.dmf_vital.proofs.Keeping.{entered-kept}
+use Rattle.dmf_vital.proofs.Expanding.{expanded-all}
+use Rattle.dmf_vital.proofs.Crossing.{bridge-crossing}
 use Rattle.dmf_vital.proofs.search.exhaust.Goals as goal
 
 -- This end has reached all that it can.

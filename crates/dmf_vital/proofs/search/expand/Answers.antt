@@ -4,7 +4,8 @@ use Rattle.dmf_state.proofs.ChangedArc.{has_arc-within}
 use Rattle.dmf_vital.specs.declared.hop.Hop.{Hop}
 use Rattle.dmf_vital.specs.declared.tree.Reached.{Reached}
 use Rattle.dmf_vital.specs.Tree.{IsStepped, LeadsToReached, not_reached}
-use Rattle.dmf_vital.proofs.Growing.{expanding-none, expanding-smaller, expanding-next, kept-in_turn}
+use Rattle.dmf_vital.proofs.Keeping.{kept-in_turn}
+use Rattle.dmf_vital.proofs.Expanding.{expanding-none, expanding-smaller, expanding-next}
 use Rattle.dmf_vital.proofs.search.expand.Goals as goal
 
 pub loop-arc-init : goal.loop-arc-init

@@ -1,4 +1,4 @@
-use Rattle.dmf_vital.proofs.Growing.{IsExpanding}
+use Rattle.dmf_vital.proofs.Expanding.{IsExpanding}
 use Rattle.dmf_vital.proofs.search.expand.Given as goal
 
 abbrev pub invariant-loop-arc : goal.invariant-loop-arc

@@ -6,7 +6,9 @@ use Rattle.dmf_state.specs.Network.{Network}
 use Rattle.dmf_vital.specs.declared.tree.Reached.{Reached}
 use Rattle.dmf_vital.specs.Hop.{turned}
 use Rattle.dmf_vital.specs.Tree.{IsExpanded, LeadsToReached, not_reached, back_of, place_of}
-use Rattle.dmf_vital.proofs.Growing.{back-kept, expanded-more, found-next, kept-in_turn, kept-none, leads-kept, longer-kept, place-kept, turned-false, turned-same}
+use Rattle.dmf_vital.proofs.Keeping.{back-kept, kept-in_turn, kept-none, leads-kept, place-kept}
+use Rattle.dmf_vital.proofs.Expanding.{expanded-more, found-next, longer-kept}
+use Rattle.dmf_vital.proofs.Crossing.{turned-false, turned-same}
 use Rattle.dmf_vital.proofs.search.look_at.Goals.{After-index}
 use Rattle.dmf_vital.proofs.search.look_at.Goals as goal
 

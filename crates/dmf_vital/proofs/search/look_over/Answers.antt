@@ -10,8 +10,8 @@ use Rattle.dmf_vital.specs.declared.hop.Hop.{Hop}
 use Rattle.dmf_vital.specs.declared.tree.Reached.{Reached}
 use Rattle.dmf_vital.specs.Hop.{from_of}
 use Rattle.dmf_vital.specs.Tree.{IsBridge, IsStepped, not_reached, at_node}
-use Rattle.dmf_vital.proofs.Chained.{node-from}
-use Rattle.dmf_vital.proofs.Growing.{has-arc, turned-false}
+use Rattle.dmf_vital.proofs.Chained.{node-from, has-arc}
+use Rattle.dmf_vital.proofs.Crossing.{turned-false}
 use Rattle.dmf_vital.proofs.search.look_over.Goals.{After-from_of-v, After-index-from}
 use Rattle.dmf_vital.proofs.search.look_over.Goals as goal
 

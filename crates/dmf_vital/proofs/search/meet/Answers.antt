@@ -2,7 +2,8 @@ use Rattle.std.proofs.Common.{◌≡◌, sym, subst}
 use Rattle.dmf_vital.specs.declared.hop.Hop.{Hop}
 use Rattle.dmf_vital.specs.Hop.{turned}
 use Rattle.dmf_vital.specs.Tree.{IsCrossing}
-use Rattle.dmf_vital.proofs.Growing.{bridge-crossing, kept-in_turn}
+use Rattle.dmf_vital.proofs.Keeping.{kept-in_turn}
+use Rattle.dmf_vital.proofs.Crossing.{bridge-crossing}
 use Rattle.dmf_vital.proofs.search.meet.Goals as goal
 
 pub returns-in_err-hop-clause-kept : goal.returns-in_err-hop-clause-kept

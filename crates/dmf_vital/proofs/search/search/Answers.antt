@@ -1,6 +1,7 @@
 use Rattle.std.proofs.Common.{ℕ, false, [], ◌∷◌, ◌++◌, ◌+◌, ◌-◌, length, set, refl, ap, ◌∙◌, arith}
 use Rattle.dmf_vital.specs.declared.tree.Reached.{Reached}
-use Rattle.dmf_vital.proofs.Growing.{entered-kept, grown-root, grown-same}
+use Rattle.dmf_vital.proofs.Keeping.{entered-kept}
+use Rattle.dmf_vital.proofs.Growing.{grown-root, grown-same}
 use Rattle.dmf_vital.proofs.Listed.{listed-stay}
 use Rattle.dmf_vital.proofs.search.search.Goals as goal
 

@@ -13,7 +13,8 @@ use Rattle.dmf_vital.specs.Exits.{is_barred, is_barred_arc}
 use Rattle.dmf_vital.specs.Hop.{to_of, room_of, turned}
 use Rattle.dmf_vital.specs.Tree.{not_reached, back_of, place_of, room_over}
 use Rattle.dmf_vital.proofs.Chained.{node-to}
-use Rattle.dmf_vital.proofs.Growing.{LeadsOn, leads-on, both-ok, both-err, met-stepped, stepped-grown, stepped-keeps, stepped-leads}
+use Rattle.dmf_vital.proofs.Growing.{LeadsOn, leads-on, both-ok, both-err, stepped-grown, stepped-keeps, stepped-leads}
+use Rattle.dmf_vital.proofs.Crossing.{met-stepped}
 use Rattle.dmf_vital.proofs.search.step_over.Goals.{After-room_of-room, After-to_of-v, After-reach, then-room-eq0-via-then-room-eq0, then-room-eq0-via-else-room-eq0+then-is_barred}
 use Rattle.dmf_vital.proofs.search.step_over.Goals as goal
 

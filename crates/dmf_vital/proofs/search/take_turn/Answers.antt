@@ -1,4 +1,4 @@
-use Rattle.dmf_vital.proofs.Growing.{kept-in_turn}
+use Rattle.dmf_vital.proofs.Keeping.{kept-in_turn}
 use Rattle.dmf_vital.proofs.search.take_turn.Goals as goal
 
 pub returns-in_err-look_over-clause-kept : goal.returns-in_err-look_over-clause-kept

@@ -1,0 +1,14 @@
+use Rattle.std.proofs.Common.{◌≡◌, take}
+use Rattle.std.specs.Io.KnownBytes.{Appends}
+use Rattle.dmf_text.proofs.WrittenLemmas.{kept_text}
+use Rattle.dmf_valuing.specs.PartRows.{worst_fields}
+use Rattle.dmf_valuing.proofs.PartRows.{each}
+use Rattle.dmf_valuing.proofs.rows.write_worst.Given as goal
+
+-- the rows before index k are written
+abbrev pub invariant-loop-k : goal.invariant-loop-k
+invariant-loop-k g l = record {
+  held : Appends (g.W.Sink.written l.initial.out).contents (g.W.Sink.written l.out).contents
+      (kept_text (each l.value) (worst_fields l.value) (take l.k l.worst));
+  mark : (g.W.Sink.written l.out).has_failed ≡ (g.W.Sink.written l.initial.out).has_failed;
+}
