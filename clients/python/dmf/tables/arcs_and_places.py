@@ -321,6 +321,9 @@ class _ArcReader(Reader):
         table.states = self.states.settled(table.lines, self.faults)
         table.notes += told_states(table.states, self.layout, table.lines)
         table.amounts.put(closed_rows(table.states), 0)
+        if self.faults.count:
+            # What is wrong with the places among the rows is told with it.
+            terms_of(table.said, self.layout, self.faults, self.reading.sign, table.amounts)
         self.faults.judge()
         return table
 

@@ -4,6 +4,7 @@ of a workbook, and tables of its places."""
 from __future__ import annotations
 
 import argparse
+import contextlib
 import os
 from collections.abc import Callable, Collection, Iterator, Mapping, Sequence
 from dataclasses import dataclass, field, replace
@@ -154,7 +155,7 @@ def plan_of_sheet(
     for option in "node_limits", "place_table":
         if option in wanted.tables:
             _add_file(plan, wanted, option)
-    faults = Faults(table.path)
+    faults = Faults(table.path, [title.text for title in table.layout.titles])
     plan.terms += terms_of(table.said, table.layout, faults, wanted.reading.sign, table.amounts)
     faults.judge()
     for other in others:
@@ -174,9 +175,21 @@ def _table_of(
     if wanted.both_ways and not matrix:
         raise TableFault("the table is a roster, whose rows lead one way: leave out --both-ways")
     # The titles are those of the matrix or the roster, and its arcs have their own.
-    table = read_arcs(cross.arcs, replace(reading, titles={}, ignored=()))
+    with _without_columns():
+        table = read_arcs(cross.arcs, replace(reading, titles={}, ignored=()))
     cross.add_places(table)
     return table, [*(others if matrix else ()), *([cross.places] if cross.places else ())]
+
+
+@contextlib.contextmanager
+def _without_columns() -> Iterator[None]:
+    """Name no columns in the faults of arcs whose columns the file does not have."""
+    try:
+        yield
+    except TableFault as fault:
+        for it in (fault, *fault.others):
+            it.column = 0
+        raise
 
 
 def _add_beside(plan: NetworkTables, sheet: Sheet, wanted: TableOptions) -> None:

@@ -155,11 +155,14 @@ class _MatrixReader:
     def _is_number(self, line: int, place: int, cell: str) -> bool:
         """Return True if a cell is a number. What it cannot be goes to the faults."""
         text = cell.strip()
-        if _is_plain(text) or read_cell(cell)[0]:
+        if _is_plain(text):
             return True
-        if not is_limitless(cell):
+        found = read_cell(cell)[0].values()
+        if not found and not is_limitless(cell):
             self.faults.add(f"{quoted_name(text)} {no_number(text)}", line, place + 1)
-        return False
+        if found and max(found) < 0:
+            self.faults.add(f"{quoted_name(text)} is below 0", line, place + 1)
+        return bool(found)
 
     def _say(self, said: _SaidCell, place: int) -> None:
         """Take what a cell says of a place. A limit that is none says nothing."""

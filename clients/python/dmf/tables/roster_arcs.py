@@ -123,9 +123,8 @@ class _RosterMaker:
     def _take_needs(self, row: RosterRow) -> None:
         for shift in self.roster.shifts:
             cell = row.cell(shift.place)
-            number = Decimal(0) if is_missing(cell) else self._number(row, shift.place)
-            if number is None:
-                continue
+            number = None if is_missing(cell) else self._number(row, shift.place)
+            number = number or Decimal(0)
             if number % 1:
                 self._fault(row, shift.place, "is not a whole number of people")
             name = self._shift_name(row, shift)

@@ -254,7 +254,7 @@ class _RosterFinder:
                 " people it needs: write 0 if it needs nobody, or leave the column out by --ignore",
                 self.needs[0].line,
             )
-        return bool(needed) and bool(_numbers_at(self.needs, at))
+        return bool(needed) and bool(marked or _numbers_at(self.needs, at))
 
     def _shifts(self, titles: Sequence[Title], places: Sequence[int]) -> list[Shift]:
         texts = [titles[at].text for at in places]
