@@ -173,6 +173,28 @@ def test_both_ways_in_python() -> None:
         assert network.solve().value == 0
 
 
+def test_steps_of_both_ways_in_python() -> None:
+    """Each way is one change, so the pipe is never half closed by its name: that changes nothing,
+    and `undo(2)` takes back both ways, all or none."""
+    table = {"from": ["A", "B"], "to": ["B", "C"], "capacity": [3, 4], "name": ["P1", "P2"]}
+    with dmf.read_table(table, both_ways=True, source="A", sink="C", history=2) as network:
+        with pytest.raises(dmf.AmbiguousArc):
+            network.close("P2")
+        with pytest.raises(dmf.AmbiguousArc):
+            network.cap("P2", 1)
+        assert [network.capacity(arc) for arc in network.arcs] == [3, 3, 4, 4]
+        with pytest.raises(dmf.NothingToUndo):
+            network.undo()
+        for ends in ("B", "C"), ("C", "B"):
+            network.cap(ends, 1)
+        assert [network.capacity(arc) for arc in network.arcs] == [3, 3, 1, 1]
+        with pytest.raises(dmf.NothingToUndo):
+            network.undo(3)
+        assert [network.capacity(arc) for arc in network.arcs] == [3, 3, 1, 1]
+        network.undo(2)
+        assert [network.capacity(arc) for arc in network.arcs] == [3, 3, 4, 4]
+
+
 def test_plan(tmp_path: Path) -> None:
     """5 can be sent: 3 over Main, back from its head, and 2 beside it."""
     assert told(tmp_path, "solve\npipes\ncut\nfrom B\npipes where from ~ b and flow > 2\nplaces\n")[

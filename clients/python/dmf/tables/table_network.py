@@ -32,7 +32,11 @@ class TableNetwork(ScaledNetwork[str]):
     `unit` is the unit of the numbers, `notes` say what was assumed and what looks like a mistake,
     and `extra` has the other columns of the table, by their titles. `sources` and `sinks` have the
     most that each gives or takes, and `limits` the most that places let through; None stands for no
-    limit. Shutting a place with a limit closes the arcs that enter it."""
+    limit. Shutting a place with a limit closes the arcs that enter it.
+
+    A pipe that leads both ways is two arcs. Its name alone is refused with `AmbiguousArc`, and each
+    way, named by its ends, is one change, for `undo` and for `history`: `undo(2)` takes back
+    both."""
 
     notes: list[str] = []
     # What reads the other columns, when somebody asks for them; and the first arc of each row of
