@@ -174,7 +174,6 @@ def _table_of(
         return read_arcs(sheet, reading), others
     if wanted.both_ways and not matrix:
         raise TableFault("the table is a roster, whose rows lead one way: leave out --both-ways")
-    # The titles are those of the matrix or the roster, and its arcs have their own.
     with _without_columns():
         table = read_arcs(cross.arcs, replace(reading, titles={}, ignored=()))
     cross.add_places(table)
