@@ -93,3 +93,23 @@ def test_use(driver: Any) -> None:
 def ascending(page: Page) -> bool:
     head = page.driver.find_element("css selector", "#grid th.use")
     return bool(head.get_attribute("aria-sort") == "ascending")
+
+
+def test_names_of_pipes_can_be_read(driver: Any) -> None:
+    """In the table no name is cut off, at each width."""
+    with board(PIPES) as it:
+        for width in 400, 768, 1280:
+            driver.execute_cdp_cmd(
+                "Emulation.setDeviceMetricsOverride",
+                {"width": width, "height": 900, "deviceScaleFactor": 1, "mobile": width == 400},
+            )
+            page = Page(driver, it.address)
+            page.click("#tab-all")
+            page.wait(lambda: page.text("#grid tbody td.name"))  # noqa: B023
+            cells = driver.execute_script(
+                "return [...document.querySelectorAll('#grid tbody td.name')].map((it) => "
+                "[it.innerText, it.scrollWidth, it.clientWidth])"
+            )
+            assert len(cells) == 14 and all(0 < text <= room for _, text, room in cells), cells
+        driver.execute_cdp_cmd("Emulation.clearDeviceMetricsOverride", {})
+        driver.get("about:blank")
