@@ -30,13 +30,13 @@ pub record MarksSide (n : Network) (marks : List ℕ) : Type 0 where
   pub inside : (v : ℕ) → IsNode n.nodes v → IsInEveryMinimumCut n v → slice_index marks (v - 1) ≡ 1
   pub outside : (v : ℕ) → IsNode n.nodes v → ¬ IsInEveryMinimumCut n v → slice_index marks (v - 1) ≡ 0
 
--- The answer to who asks for the side, if the array has its length: that no flow has a larger value, and that the capacities of the arcs
+-- The answer to a caller that asks for the side, if the array has its length: that no flow has a larger value, and that the capacities of the arcs
 -- which leave the side add up to it; that some flow has a larger value; or that memory was refused.
 abbrev pub TellsSide : NetworkState → ℕ → Type 0
 TellsSide s code =
     ((code ≡ DMF_OK) × IsOptimal s) ⊎ ((code ≡ DMF_NOT_GREATEST) × IsSurpassed s.network s.flows) ⊎ (code ≡ DMF_NO_MEMORY)
 
--- The answer to who asks for the side with an array of this length.
+-- The answer to a caller that asks for the side with an array of this length.
 abbrev pub AnswersSide : NetworkState → ℕ → ℕ → Type 0
 AnswersSide s given code = MatchBool (nat_eq given s.network.nodes) (TellsSide s code) (code ≡ DMF_BAD_LENGTH)
 
@@ -83,7 +83,7 @@ pub record AreNodeLosses (n : Network) (losses : List ℕ) : Type 0 where
   pub size : length losses ≡ n.nodes
   pub each : (k : ℕ) → k < length losses → IsLossAt n (k + 1) (slice_index losses k)
 
--- The answer to who asks for losses with an array of length `given`, which should have length `wanted`: that the lengths differ; that no flow
+-- The answer to a caller that asks for losses with an array of length `given`, which should have length `wanted`: that the lengths differ; that no flow
 -- has a larger value, or that some flow has; or that memory was refused.
 abbrev pub AnswersLosses : NetworkState → ℕ → ℕ → ℕ → Type 0
 AnswersLosses s given wanted code =

@@ -22,7 +22,7 @@ pub record IsMaximumFlow (n : Network) (value : ℕ) (flows : List ℕ) : Type 0
   pub greatest : IsGreatest n flows
   pub value_is : pos value ≡ flow_value n flows
 
--- The answer to who asks for a maximum flow with arrays of these lengths for the flows and for the side: that one of them has neither a
+-- The answer to a caller that asks for a maximum flow with arrays of these lengths for the flows and for the side: that one of them has neither a
 -- place for each arc or node nor none at all; that all is written; or that memory was refused.
 abbrev pub AnswersMaximumFlow : Network → ℕ → ℕ → ℕ → Type 0
 AnswersMaximumFlow n flow_count side_count code =

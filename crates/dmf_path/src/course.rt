@@ -13,7 +13,7 @@ pub enum KeptEnd {
     Both,
 }
 
-/// Where a search solves, all nodes get a label once labelling from both ends has looked at so many times the links that there are.
+/// In a solve, all nodes are labelled once labelling from both ends has examined this many times as many links as there are.
 const MANY: u64 = 4;
 
 /// From where the nodes are labelled next.
