@@ -5,6 +5,8 @@ from __future__ import annotations
 
 import json
 import shlex
+import subprocess
+import sys
 import threading
 import time
 from collections.abc import Callable
@@ -14,6 +16,7 @@ from urllib.parse import quote
 
 import pytest
 from board_running import JSON, Board, board
+from conftest import ROOT
 from dmf.desk.board.import_options import nothing_said
 from dmf.desk.board.stopping import Stoppable, Stopped
 from packages import load
@@ -268,6 +271,36 @@ def test_each_moment() -> None:
         assert was_stopped == (ended[-1:] == [pause])
     work.stop()
     assert sum(range(100_000)) and len(done) >= 400 - len(ended)
+
+
+# Work that is done, and work that is stopped, and then what a debugger does.
+TRACED = """
+import sys, threading
+from dmf.desk.board.stopping import Stoppable, Stopped
+work, begun = Stoppable(), threading.Event()
+work.run(lambda: None, lambda: None)
+threading.Thread(target=lambda: (begun.wait(), work.stop())).start()
+try:
+    work.run(lambda: (begun.set(), [None for _ in iter(int, 1)]), lambda: None)
+except Stopped:
+    print("stopped")
+def trace(*_):
+    return trace
+sys.settrace(trace)
+print(sum(number for number in range(10)))
+"""
+
+
+def test_traced_afterwards() -> None:
+    """What is stopped leaves nothing behind in its thread, which goes on under a debugger."""
+    ran = subprocess.run(
+        [sys.executable, "-c", TRACED],
+        env={"PYTHONPATH": str(ROOT / "clients" / "python")},
+        capture_output=True,
+        text=True,
+        timeout=20,
+    )
+    assert (ran.stdout, ran.stderr) == ("stopped\n45\n", "")
 
 
 class BusyPage(ImportPage):

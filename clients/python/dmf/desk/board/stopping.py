@@ -2,8 +2,10 @@
 
 from __future__ import annotations
 
+import contextlib
 import ctypes
 import threading
+import time
 from collections.abc import Callable
 
 
@@ -24,23 +26,20 @@ class Stoppable:
     def run(self, work: Callable[[], None], end: Callable[[], None]) -> None:
         """Do the work. `stop` raises a `Stopped` in it, at the latest at its end. `end` ends what
         the work may wait for outside Python."""
+        has_come = False
         try:
-            with self._lock:
-                self._thread, self._end, self._is_stopped = threading.get_ident(), end, False
-            work()
-        finally:
-            # Until the thread is forgotten, an exception may come. A call could be met by it before
-            # its first line, so all of this stands here.
-            while True:
-                try:
-                    with self._lock:
-                        if self._thread:
-                            _raise_in(self._thread, None)
-                        self._thread, self._end = 0, None
-                    break
-                except Stopped:
-                    pass
+            try:
+                with self._lock:
+                    self._thread, self._end, self._is_stopped = threading.get_ident(), end, False
+                work()
+            finally:
+                self._forget()
+        except Stopped:
+            has_come = True
+            self._forget()
         if self._is_stopped:
+            if not has_come:
+                _await_stopped()
             raise Stopped
 
     def stop(self) -> None:
@@ -49,12 +48,26 @@ class Stoppable:
         with self._lock:
             if self._thread and not self._is_stopped:
                 self._is_stopped = True
-                _raise_in(self._thread, Stopped)
+                _raise_in(self._thread)
                 if self._end:
                     self._end()
 
+    def _forget(self) -> None:
+        """Forget the thread, so that no exception is sent to it from now on."""
+        with self._lock:
+            self._thread, self._end = 0, None
 
-def _raise_in(thread: int, error: type[BaseException] | None) -> None:
-    """Raise an error in a thread, or take back the one that was not raised yet."""
-    given = ctypes.py_object(error) if error else None
-    ctypes.pythonapi.PyThreadState_SetAsyncExc(ctypes.c_ulong(thread), given)
+
+def _raise_in(thread: int) -> None:
+    """Raise a `Stopped` in a thread.
+
+    It is never taken back: after that CPython 3.11 would not go on under a debugger."""
+    ctypes.pythonapi.PyThreadState_SetAsyncExc(ctypes.c_ulong(thread), ctypes.py_object(Stopped))
+
+
+def _await_stopped() -> None:
+    """Let the `Stopped` come that was sent to this thread. It does at a next call, unless it came
+    where Python drops exceptions, as in a destructor."""
+    with contextlib.suppress(Stopped):
+        for _ in range(100):
+            time.sleep(0)
