@@ -173,18 +173,20 @@ class Page:
         """Clicks a part of the picture: its label, or if that has no room the part itself."""
         from selenium.common.exceptions import ElementClickInterceptedException
 
-        self.settle()
-        label = self.driver.find_element("css selector", f"#{place} text")
-        if label.is_displayed():
+        def click(label: Any) -> None:
+            if not label.is_displayed():
+                self.driver.execute_script(
+                    "arguments[0].dispatchEvent(new MouseEvent('click', { bubbles: true }))", label
+                )
+                return
             try:
                 label.click()
             except ElementClickInterceptedException:
                 # The line of another part lies over it.
                 self.actions().move_to_element(label).click().perform()
-        else:
-            self.driver.execute_script(
-                "arguments[0].dispatchEvent(new MouseEvent('click', { bubbles: true }))", label
-            )
+
+        self.settle()
+        self.act_on(lambda: self.driver.find_element("css selector", f"#{place} text"), click)
         self.wait(lambda: self.text("#what h3") == name)
 
     def choose_found(self, name: str) -> None:

@@ -19,6 +19,7 @@ from desk_shared import PIPES, SECONDS, swept
 from dmf.desk.board.second_sweeps import PATIENCE
 
 QUESTION = "What would a second one bring?"
+NOTHING = "A second one of any of them alone brings nothing."
 # How much each way in lets through, and how much the way out of the same place, by its number.
 WAYS = [(place % 7 + 1, place % 5 + 1) for place in range(100_000)]
 
@@ -176,7 +177,7 @@ def test_stop(driver: Any) -> None:
         assert page.text("#seconds-told") == (
             f"Best to have a second of: {' or '.join(best)}, {most} litres per second more."
             if most
-            else "A second one of any of them alone brings nothing."
+            else NOTHING
         )
         # A step makes it another question.
         page.after(lambda: it.do(what="close", arc=14) and None)
@@ -213,6 +214,6 @@ def test_progress(driver: Any, tmp_path: Path) -> None:
         most = max(gain(names[label]) for label, *_ in found[:tried])
         said = page.text("#seconds-told")
         assert said.startswith(f"Stopped: {tried} of 300 are tried. ")
-        assert f", {most} litres more." in said
+        assert (f", {most} litres more." if most else NOTHING) in said
         driver.execute_script("letGo()")
         driver.get("about:blank")
