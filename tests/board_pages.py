@@ -45,6 +45,14 @@ def browser() -> Iterator[Any]:
     made.quit()
 
 
+def set_width(driver: Any, width: int) -> None:
+    """Gives the window this width, of which 400 is that of a phone."""
+    driver.execute_cdp_cmd(
+        "Emulation.setDeviceMetricsOverride",
+        {"width": width, "height": 900, "deviceScaleFactor": 1, "mobile": width == 400},
+    )
+
+
 class Page:
     """A page that a browser shows."""
 

@@ -13,7 +13,7 @@ from pathlib import Path
 from typing import Any
 
 import pytest
-from board_pages import Page
+from board_pages import Page, set_width
 from board_running import Board, board
 from desk_shared import ODD, PIPES, ROOT, SCRIPT, STORY, run, swept
 from dmf.desk.board.server import Door
@@ -177,10 +177,7 @@ def test_widths(driver: Any) -> None:
     """Nothing but the picture and the tables goes past a narrow page."""
     with board(PIPES) as it:
         for width in 400, 768, 1280:
-            driver.execute_cdp_cmd(
-                "Emulation.setDeviceMetricsOverride",
-                {"width": width, "height": 900, "deviceScaleFactor": 1, "mobile": width == 400},
-            )
+            set_width(driver, width)
             page = Page(driver, it.address)
             page.press("What would a second one bring?")
             page.wait(lambda: "second" in page.text("#seconds-told"))  # noqa: B023

@@ -8,7 +8,7 @@ from pathlib import Path
 from typing import Any
 
 import pytest
-from board_pages import Page
+from board_pages import Page, set_width
 from board_running import board
 from desk_shared import PIPES
 
@@ -99,10 +99,7 @@ def test_names_of_pipes_can_be_read(driver: Any) -> None:
     """In the table no name is cut off, at each width."""
     with board(PIPES) as it:
         for width in 400, 768, 1280:
-            driver.execute_cdp_cmd(
-                "Emulation.setDeviceMetricsOverride",
-                {"width": width, "height": 900, "deviceScaleFactor": 1, "mobile": width == 400},
-            )
+            set_width(driver, width)
             page = Page(driver, it.address)
             page.click("#tab-all")
             page.wait(lambda: page.text("#grid tbody td.name"))  # noqa: B023

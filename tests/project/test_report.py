@@ -194,7 +194,7 @@ def test_what_is_not_tried_is_said(tmp_path: Path, monkeypatch: pytest.MonkeyPat
     assert said in Page(report(desk)).text
     monkeypatch.setattr(project_findings, "LARGE", 14)
     text = Page(report(desk)).text
-    assert "What is lost without one of so many pipes was not asked for." in text
+    assert "There are too many pipes here to find what the loss of each would cost." in text
     assert findings(desk).tried.losses is None and "loses" not in text
     desk.end()
 

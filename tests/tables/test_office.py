@@ -18,8 +18,9 @@ from dmf.tables.table_file import ReadOptions
 from dmf.tools.desk_options import RowCount
 from dmf.tools.options import add_words, words_of
 from matrix_sheets import MATRICES
+from office_questions import ASKED
 from office_shared import at_a_terminal, ends_of, greatest
-from office_sheets import ASKED, READ, Arcs, Asked, Read
+from office_sheets import READ, Arcs, Asked, Read
 from packages import load
 
 openpyxl: Any = load("openpyxl")

@@ -37,8 +37,8 @@ pub enum Mode {
     Check {
         problem: String,
     },
-    /// Find what is left without each arc of the problem on standard input, or with `nodes` without each node. With `worst` only so many
-    /// are told, the worst first.
+    /// Find the greatest value without each arc of the problem on standard input, or without each node if `nodes` is set. `worst` limits
+    /// the list to that many, the greatest losses first.
     Vital {
         nodes: bool,
         worst: Option<u32>,

@@ -98,7 +98,7 @@ pub fn run_solving<P: Source, W: Sink, V: Watch>(
     }
 }
 
-/// Writes the greatest value of a problem, and what is left of it without each arc, or without each node, or without so many of the worst.
+/// Writes the greatest value of a problem, and that without each arc or each node; `worst` limits the list to that many, the worst first.
 ///
 /// Fails as [`run_vital`] does.
 #[inline(never)]

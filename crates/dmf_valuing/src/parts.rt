@@ -26,8 +26,8 @@ pub enum Losses {
     Worst(Vec<NumberedLoss>),
 }
 
-/// What is lost without each part, or without at most so many of the worst, of a state whose flow is greatest. Fails only if memory is
-/// refused.
+/// The loss of each part of a state whose flow is greatest, or only the greatest losses, if their number is limited. Fails only if memory
+/// is refused.
 pub fn find_losses(
     alloc: Global,
     parts: Parts,
@@ -43,7 +43,7 @@ pub fn find_losses(
     }
 }
 
-/// The worst losses, at most so many, of a state whose flow is greatest. Fails only if memory is refused.
+/// The `most` greatest losses in a state whose flow is greatest, the greatest first. Fails only if memory is refused.
 fn worst_of(
     alloc: Global,
     parts: Parts,

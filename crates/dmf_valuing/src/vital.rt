@@ -48,8 +48,8 @@ pub fn run_vital_nodes<P: Source, W: Sink, V: Watch>(
     run_valuing(alloc, Parts::Nodes, None, problem, out, watch)
 }
 
-/// Does what [`run_vital`] does, for the arcs alone without which most is lost, at most so many: the worst first, and of arcs with equal
-/// losses that of the smaller number.
+/// Does what [`run_vital`] does, but lists only the `most` arcs that cost most to lose: the greatest loss first and, of equal ones, the
+/// smaller number first.
 pub fn run_vital_worst<P: Source, W: Sink, V: Watch>(
     alloc: Global,
     most: u32,

@@ -255,7 +255,7 @@ def _reckoned(found: Findings) -> Iterator[str]:
         if 1 in (found.sources, found.sinks):
             yield "The only source and the only sink are not among the places."
     else:
-        yield f"What is lost without one of so many {noun}s was not asked for."
+        yield f"There are too many {noun}s here to find what the loss of each would cost."
     all_or_some = (
         "each part"
         if tried.tried == tried.limit
