@@ -18,6 +18,7 @@ import pytest
 from client_shared import CLIENT, ROOT, dmf
 from dmf import errors
 from dmf.network_changes import ChangeableNetwork
+from dmf.network_losses import VitalNetwork
 from dmf.presentation import Presentable
 from dmf.sweeps import cases as sweeping
 
@@ -49,7 +50,7 @@ def test_docstrings(module: ModuleType) -> None:
 CALLS = {
     **{
         f"Network.{name}": getattr(dmf.Network, name)
-        for kind in (dmf.Network, ChangeableNetwork, Presentable)
+        for kind in (dmf.Network, VitalNetwork, ChangeableNetwork, Presentable)
         for name in vars(kind)
     },
     **{

@@ -5,30 +5,27 @@ from __future__ import annotations
 import contextlib
 from array import array
 from collections.abc import Hashable, Iterable, Iterator
-from functools import partial
 from typing import TYPE_CHECKING, Any, NoReturn, Tuple, Union
 
 from . import arrays
-from .arcs import OpenArcs
 from .capacities import CapacityReader, Scale
 from .columns import Columns, Node
 from .errors import Refused, SessionEnded
-from .network_changes import ChangeableNetwork
+from .network_losses import VitalNetwork
 from .rows import Whole, columns_of
 from .scaled_network import ScaledChanges
-from .session.base import Part, Program, Way, bound, where
+from .session.base import Program, Way, bound, where
 from .session.runners import chosen, start
 from .state import NetworkState
 
 if TYPE_CHECKING:
-    from .losses import VitalArcs, VitalNodes
     from .quantity import Measure
 
 # An arc as the caller gives it: its tail, its head, its capacity and, if it has one, its key.
 Row = Union[Tuple[Node, Node, Whole], Tuple[Node, Node, Whole, Hashable]]
 
 
-class Network(ChangeableNetwork[Node]):
+class Network(VitalNetwork[Node]):
     """A network with a flow on it, and its changes. At the beginning the flow is 0.
 
     The arcs are `(tail, head, capacity)` or `(tail, head, capacity, key)`, any number of them
@@ -341,97 +338,6 @@ class Network(ChangeableNetwork[Node]):
         copy = type(self)._of(self._kept.twin(), self._session.way)
         copy._session.program = self._session.program
         return copy
-
-    def vital(self, top: int | None = None) -> VitalArcs[Node]:
-        """Find for each arc the greatest value without it.
-
-        All of them are found from one greatest flow, in a fraction of the time that it takes to
-        close each arc and solve. The network is read as it is now, with all changes; it stays as it
-        is, and its flow need not be greatest. If the library runs the session and the flow is
-        greatest, the session finds them; otherwise a program is needed.
-
-        Parameters
-        ----------
-        top
-            How many arcs are returned: those whose loss costs most, the greatest loss first, and
-            of equal losses the first arc. By default all are returned, in their order.
-
-        Returns
-        -------
-        VitalArcs
-            The greatest value, the arcs, the value without each, and the loss of each. A closed
-            arc is one of them, and costs nothing to lose.
-
-        Raises
-        ------
-        NoProgram
-            If a program is needed, and none is found that fits.
-        NotANumber
-            If `top` is not a whole number.
-
-        Examples
-        --------
-        >>> network = Network(
-        ...     [("lake", "mill", 3), ("mill", "sea", 2), ("lake", "sea", 1)], "lake", "sea")
-        >>> found = network.vital()
-        >>> found.value, list(found.values), list(found.losses)
-        (3, [1, 1, 2], [2, 2, 1])
-        >>> [(arc.tail, arc.head, loss) for arc, _, loss in network.vital(top=1)]
-        [('lake', 'mill', 2)]
-        """
-        from .losses import VitalArcs
-
-        self._ready()
-        find = partial(self._values_without, Part.ARC)
-        return VitalArcs.of(self._every_arc(), find, self._measure, top)
-
-    def vital_nodes(self, top: int | None = None) -> VitalNodes[Node]:
-        """Find for each node except the source and the sink the greatest value without it.
-
-        Without a node all arcs at it are closed, as by `shut`. All values are found from one
-        greatest flow, as for `vital`. The source and the sink are left out, since nothing flows
-        without them; of a table with several sources or sinks each of these places is a node.
-
-        Parameters
-        ----------
-        top
-            How many nodes are returned: those whose loss costs most, the greatest loss first, and
-            of equal losses the first node. By default all are returned, in the order of `nodes`.
-
-        Returns
-        -------
-        VitalNodes
-            The greatest value, the nodes, the value without each, and the loss of each.
-
-        Raises
-        ------
-        Error
-            What `vital` raises.
-
-        Examples
-        --------
-        >>> network = Network(
-        ...     [("lake", "mill", 3), ("mill", "sea", 2), ("lake", "sea", 1)], "lake", "sea")
-        >>> found = network.vital_nodes()
-        >>> found.value, found.nodes, list(found.values), list(found.losses)
-        (3, ['mill'], [1], [2])
-        """
-        from .losses import VitalNodes
-
-        self._ready()
-        find = partial(self._values_without, Part.NODE)
-        return VitalNodes.of(self._inner_nodes(), find, self._measure, top)
-
-    def _every_arc(self) -> OpenArcs[Node]:
-        """Return all arcs that callers see, including closed ones."""
-        return self._kept.every_arc()
-
-    def _inner_nodes(self) -> dict[Node, int]:
-        """Return the nodes that callers see, except the source and the sink, each with its
-        number."""
-        kept = self._kept
-        ends = kept.source, kept.sink
-        return {node: kept.number(node) for node in self.nodes if node not in ends}
 
     def end(self) -> None:
         """End the session. The network answers nothing after that.

@@ -18,8 +18,8 @@ from .columns import Node
 from .errors import Error, NoSuchArc, SessionEnded, UsedByTwoProcesses, UsedByTwoThreads
 from .history import Command
 from .rows import whole
-from .session.base import Part, Session, Told, ValuesWithout
-from .session.runners import program_of, start
+from .session.base import Session, Told
+from .session.runners import start
 from .solution import Flows, Solution
 from .state import NetworkState
 from .text.lexical import AMOUNTS
@@ -139,21 +139,6 @@ class SessionHolder(Generic[Node]):
         """Return the source side of the smallest minimum cut, as the numbers of its nodes. Raises
         `FlowIsNotGreatest`."""
         return self._session.cut()[1]
-
-    def _values_without(self, part: Part) -> ValuesWithout:
-        """Return the greatest value without each arc or node, from the session if it finds that,
-        else from the program."""
-        found = self._asked_values_without(part)
-        if found is not None:
-            return found
-        from .session.fresh import values_without
-
-        problem = self._kept.copy().problem()
-        return values_without(problem, part, program_of(self._session.program))
-
-    @exclusive
-    def _asked_values_without(self, part: Part) -> ValuesWithout | None:
-        return self._session.values_without(part)
 
     @exclusive
     def _flow_of_each(self) -> array[int]:
