@@ -1,5 +1,5 @@
-"""The arcs of a desk beside a list of them, and the numbers of names beside those found one by
-one."""
+"""The arcs of a desk beside a list of them, and how names are shown, typed and compared, together
+and one by one."""
 
 from __future__ import annotations
 
@@ -13,7 +13,7 @@ from dmf.desk.arc_lines import ArcLines
 from dmf.desk.steps import DeskArc
 from dmf.quantity import Measure
 from dmf.text.lexical import AMOUNTS, NODES, display
-from dmf.text.spelling import cleaned, numbers_by_name
+from dmf.text.spelling import cleaned, folded, folded_names, shown_names, typed_names
 
 
 def judge(lines: ArcLines, model: list[DeskArc], names: list[str | None]) -> None:
@@ -27,8 +27,16 @@ def judge(lines: ArcLines, model: list[DeskArc], names: list[str | None]) -> Non
     assert [lines.ends_and_key(number) for number in numbers] == [
         (*it[:2], name) for it, name in zip(model, names)
     ]
-    assert lines.names() == {number: it for number, it in zip(numbers, names) if it is not None}
-    assert {*lines.replaced()} == {number for number in numbers if model[number - 1].is_replaced}
+    assert lines.given_names == {number: f"pipe {number}" for number in (2, 3, 7)}
+    present = [(number, it) for number, it in enumerate(model, 1) if not it.is_replaced]
+    assert lines.present(numbers) == [number for number, _ in present]
+    for tail, head in {it[:2] for it in model} | {(1, 1), (1, 10)}:
+        found = [number for number, it in present if it[:2] == (tail, head)]
+        assert lines.between(tail, head) == found
+    for nodes in {3}, {1, 9}:
+        first = enumerate(model[:12], 1)
+        at_nodes = [number for number, it in first if not nodes.isdisjoint(it[:2])]
+        assert [*lines.given_at(nodes)] == at_nodes
     for place in count, -count - 1:
         with pytest.raises(IndexError):
             lines[place]
@@ -50,6 +58,9 @@ def test_arcs_beside_a_list(scale: int) -> None:
     lines = ArcLines(columns, capacities, measure)
     model = [DeskArc(*them, measure.quantity(it)) for them, it in zip(ends, capacities)]
     names: list[str | None] = [named.get(number) for number in range(1, 13)]
+    model.append(DeskArc(1, 10, 5))
+    names.append("new")
+    lines.append(model[-1], names[-1])
     # The network's own capacities change.
     capacities[0] += 1
     for _ in range(300):
@@ -64,23 +75,20 @@ def test_arcs_beside_a_list(scale: int) -> None:
             model.append(DeskArc(random.randint(1, 9), random.randint(1, 9), random.randrange(99)))
             names.append(random.choice([None, f"new {len(model)}"]))
             lines.append(model[-1], names[-1])
-        elif len(model) > 12:
+        elif len(model) > 13:
+            # One that was added is left, without which none is replaced.
             lines.pop()
             del model[-1], names[-1]
         judge(lines, model, names)
 
 
-def test_numbers_by_name() -> None:
+def test_names_together() -> None:
     random = Random("names")
-    signs = ["a", "b", "B", " ", "  ", "\t", "é", "\x1b", "\\", "\u200f", "\ufeff", "-"]
+    signs = ["a", "b", "B", " ", "  ", "\t", "é", "\x1b", "\\", "\u200f", "\ufeff", "-", "\n"]
     for plain in (True, False) * 200:
         pool = signs[:3] if plain else signs
-        names = {
-            random.randrange(10**6): "".join(random.choices(pool, k=random.randint(1, 4)))
-            for _ in range(random.randint(0, 6))
-        }
-        wanted: dict[str, tuple[int, ...]] = {}
-        for number, name in names.items():
-            typed = cleaned(display(name))
-            wanted[typed] = (*wanted.get(typed, ()), number)
-        assert numbers_by_name(names) == wanted
+        given = ["".join(random.choices(pool, k=random.randrange(4))) for _ in range(12)]
+        given = given[: random.choice([0, 1, 2, 12])]
+        assert [*typed_names(given)] == [cleaned(display(name)) for name in given]
+        assert [*shown_names(given)] == [*map(display, given)]
+        assert folded_names(given) == [*map(folded, given)]

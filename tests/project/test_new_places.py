@@ -28,7 +28,7 @@ MORE = greatest([*water(), *TOWN])
 def add(desk: Desk, tail: str, head: str, capacity: int) -> None:
     """Add an arc to a new place, if it does not exist."""
     names = desk.network.names
-    to: Place | MakePlace = names.places.get(head) or MakePlace(head)
+    to: Place | MakePlace = names.place(head) if head in names.places else MakePlace(head)
     desk.add(names.place(tail), to, capacity)
 
 

@@ -7,8 +7,8 @@ import functools
 from array import array
 from collections import defaultdict
 from collections.abc import Callable, Hashable, Iterable, Iterator, Mapping, Sequence
-from itertools import compress, count
-from operator import gt
+from itertools import compress, count, repeat
+from operator import add, gt, mul
 from typing import TYPE_CHECKING, Any, Generic, TypeVar
 
 from .errors import NoSuchArc, shown_value
@@ -89,24 +89,25 @@ class WholeNodes(Mapping[Any, int]):
 
 
 Node = TypeVar("Node", bound=Hashable)
+Named = TypeVar("Named")
 # The number of searches that look at all arcs before an index is made, and the number of arcs from
 # which numpy, if it is loaded, looks at them faster.
 MOST_MISSED, MANY = 20, 1_000
 
 
-class Index:
-    """Numbers by the names of what they number. `_last` has the last number of each name, and
+class Index(Generic[Named]):
+    """Numbers, or other things, by their names. `_last` has the last number of each name, and
     `_several` all numbers of a name with several."""
 
-    def __init__(self, names: Callable[[], Iterable[Any]], numbers: Sequence[int]) -> None:
-        self._last: dict[Any, int] = dict(zip(names(), numbers))
-        self._several: dict[Any, list[int]] = defaultdict(list)
+    def __init__(self, names: Callable[[], Iterable[Any]], numbers: Sequence[Named]) -> None:
+        self._last: dict[Any, Named] = dict(zip(names(), numbers))
+        self._several: dict[Any, list[Named]] = defaultdict(list)
         if len(numbers) > len(self._last):
             for name, number in zip(names(), numbers):
                 if name in self._several or self._last[name] != number:
                     self._several[name].append(number)
 
-    def find(self, name: Any) -> list[int]:
+    def find(self, name: Any) -> list[Named]:
         """Return the numbers that a name has, in their order."""
         if name in self._several:
             return self._several[name]
@@ -169,15 +170,15 @@ class Columns(Generic[Node]):
         return numbers.names if isinstance(numbers, WholeNodes) else list(numbers)
 
     @functools.cached_property
-    def _by_ends(self) -> Index:
+    def _by_ends(self) -> Index[int]:
         scale = len(self.numbers) + 1
         return Index(
-            lambda: (tail * scale + head for tail, head in zip(self.tails, self.heads)),
+            lambda: map(add, map(mul, self.tails, repeat(scale)), self.heads),
             range(1, len(self) + 1),
         )
 
     @functools.cached_property
-    def _by_key(self) -> Index:
+    def _by_key(self) -> Index[int]:
         return Index(self.keys.values, list(self.keys))
 
     def between(self, tail: int, head: int) -> list[int]:

@@ -3,9 +3,10 @@
 from __future__ import annotations
 
 from array import array
-from collections.abc import Hashable, Iterable, Iterator, Mapping, Sequence
+from collections.abc import Container, Hashable, Iterable, Iterator, Mapping, Sequence
 from functools import cached_property
-from itertools import chain
+from itertools import chain, compress, count
+from operator import or_
 from typing import Any, overload
 
 from ..columns import Columns
@@ -120,14 +121,44 @@ class ArcLines(Sequence[DeskArc]):
         columns = self._columns
         return columns.tails[number - 1], columns.heads[number - 1], self._keys.get(number)
 
-    def names(self) -> dict[int, str]:
-        """Return the names that were given to arcs, by their numbers."""
-        keys: dict[int, Any] = {**self._keys, **self._added_keys}
+    @cached_property
+    def given_names(self) -> Mapping[int, str]:
+        """Return the names that the problem gives its arcs, by their numbers."""
+        keys: Mapping[int, Any] = self._keys
         if {*map(type, keys.values())} <= {str}:
             return keys
         return {number: name for number, name in keys.items() if isinstance(name, str)}
 
-    def replaced(self) -> Iterator[int]:
-        """Yield the arcs that were opened again as other ones, by their numbers."""
-        later = enumerate(self._added, self._first_count)
-        return (at + 1 for at, line in chain(self._made.items(), later) if line.is_replaced)
+    def given_at(self, nodes: Container[int]) -> Iterator[int]:
+        """Yield the arcs of the problem that are at one of these nodes, in their order."""
+        is_at = nodes.__contains__
+        ends = self._columns.tails, self._columns.heads
+        return compress(count(1), map(or_, *(map(is_at, column) for column in ends)))
+
+    def between(self, tail: int, head: int) -> list[int]:
+        """Return the arcs from one node to another, without those that were opened again as other
+        ones."""
+        # Places that were made are not among the problem's nodes.
+        is_given = max(tail, head) <= len(self._columns.numbers)
+        found = self._columns.between(tail, head) if is_given else []
+        if self._added:
+            added = enumerate(self._added, self._first_count + 1)
+            found = [*found, *(number for number, line in added if line[:2] == (tail, head))]
+        return self.present(found)
+
+    def present(self, numbers: Sequence[int]) -> list[int]:
+        """Return those of these arcs that were not opened again as other ones."""
+        first, made, added = self._first_count, self._made, self._added
+        # What was opened again is an arc that was added.
+        return (
+            [
+                number
+                for number in numbers
+                if not (
+                    line := made.get(number - 1) if number <= first else added[number - 1 - first]
+                )
+                or not line.is_replaced
+            ]
+            if added
+            else [*numbers]
+        )

@@ -6,10 +6,20 @@ from collections.abc import Iterable, Iterator, Sequence
 from functools import cached_property
 from typing import NamedTuple
 
+from ..columns import Index
 from ..text.lexical import display
-from ..text.spelling import cleaned, folded, near, numbers_by_name, quoted_name
+from ..text.spelling import (
+    cleaned,
+    folded,
+    folded_names,
+    near,
+    quoted_name,
+    shown_names,
+    typed_names,
+)
 from ..text.table_comments import Role, TableRoles, listed, role_phrase, role_words
 from .arc_lines import ArcLines
+from .arcs_by_name import ArcsByName
 from .pipes import Pipes
 from .steps import DeskFault, Node, Place, UnknownPlace
 
@@ -53,6 +63,9 @@ class Directory:
         self.is_any_case = False
         self._node_names = node_names
         self._nodes = nodes
+        self._arcs = ArcsByName(lines, folding.inner_nodes, self._typed)
+        # They take in an arc that was added, and take it out again.
+        self.put, self.drop = self._arcs.put, self._arcs.drop
         # The names of the places that were made, whose nodes are those after the table's.
         self.made_names: tuple[str, ...] = ()
 
@@ -82,16 +95,15 @@ class Directory:
 
     def call(self, made: tuple[str, ...]) -> None:
         """Take as the places that were made those with these names."""
-        labels, called, places = self._labels, self._called, self.places
+        labels, places = self._labels, self.places
         # If an error breaks this off, the next call takes back what is half done.
         before, self.made_names = self.made_names, (*self.made_names, *made, "")
         for name in before:
-            called.pop(name, None)
             places.pop(name, None)
         del labels[self.given_count :]
         for number, name in enumerate(made, self.given_count + 1):
             labels.append(name)
-            called[name], places[name] = [number], Place(number, number)
+            places[name] = number
         vars(self).pop("_folded_places", None)
         self.made_names = made
 
@@ -101,7 +113,7 @@ class Directory:
         name = cleaned(text)
         if not name or display(name) != name or self._numbered(name):
             raise DeskFault(f"{quoted_name(name)} cannot be the name of a place")
-        for other in self._folded_places.get(folded(name), ()):
+        for other in self._folded_places.find(folded(name)):
             self.place(other)
             raise DeskFault(f"a place called {quoted_name(other)} already exists")
         return name
@@ -109,7 +121,7 @@ class Directory:
     @cached_property
     def _labels(self) -> list[str]:
         """Return what each node is called. Both nodes of a place are called as it is."""
-        labels, place = [*map(display, self._node_names)], self._folding.place
+        labels, place = [*shown_names(self._node_names)], self._folding.place
         return (
             [labels[place(number) - 1] for number in range(1, len(labels) + 1)]
             if self._has_roles
@@ -117,68 +129,32 @@ class Directory:
         )
 
     @cached_property
-    def _called(self) -> dict[str, list[int]]:
-        """Return the first nodes of places, by what can be typed for them."""
+    def _called(self) -> tuple[dict[str, int], dict[str, list[int]]]:
+        """Return the first nodes of places by what can be typed for them: by the names that one
+        place alone has, and by those that several have."""
+        nodes, names = range(1, len(self._labels) + 1), typed_names(self._labels)
+        places: Sequence[int] = nodes
+        if self._has_roles:
+            places = self._folding.places(nodes)
+            names = [names[node - 1] for node in places]
+        alone = dict(zip(names, places))
+        if len(alone) == len(names):
+            return alone, {}
         found: dict[str, list[int]] = {}
-        for number in self._folding.places(range(1, len(self._labels) + 1)):
-            found.setdefault(cleaned(self._labels[number - 1]), []).append(number)
-        return found
+        for name, node in zip(names, places):
+            found.setdefault(name, []).append(node)
+        alone = {name: numbers[0] for name, numbers in found.items() if len(numbers) == 1}
+        return alone, {name: numbers for name, numbers in found.items() if len(numbers) > 1}
 
     @cached_property
-    def places(self) -> dict[str, Place]:
-        """Return the places by their names, if one place alone has it."""
-        second = self._folding.second
-        return {
-            name: Place(numbers[0], second(numbers[0]))
-            for name, numbers in self._called.items()
-            if len(numbers) == 1
-        }
+    def places(self) -> dict[str, int]:
+        """Return the first nodes of places by their names, if one place alone has it."""
+        return self._called[0]
 
     @cached_property
     def _several(self) -> dict[str, list[int]]:
-        """Return the nodes of the names that several places have."""
-        return {name: numbers for name, numbers in self._called.items() if len(numbers) > 1}
-
-    @cached_property
-    def _between(self) -> dict[tuple[int, int], list[int]]:
-        """Return the arcs by their ends, without those that were opened again as other ones."""
-        found: dict[tuple[int, int], list[int]] = {}
-        for number, ends in enumerate(self._lines.ends(), 1):
-            found.setdefault(ends, []).append(number)
-        for number in self._lines.replaced():
-            found[self._ends(number)].remove(number)
-        return found
-
-    @cached_property
-    def _arcs(self) -> dict[str, tuple[int, ...]]:
-        """Return the arcs by the names by which they can be typed, likewise."""
-        found = numbers_by_name(self._lines.names())
-        if self._has_roles:
-            for number, ends in enumerate(self._lines.ends(), 1):
-                if role := self._folding.role(*ends):
-                    _put(found, cleaned(role_words(role, self.node)), number)
-        for number in self._lines.replaced():
-            for name in self._typed(number):
-                _drop(found, name, number)
-        return found
-
-    def put(self, number: int) -> None:
-        """Take in an arc."""
-        if "_arcs" in vars(self):
-            for name in self._typed(number):
-                _put(self._arcs, name, number)
-        if "_between" in vars(self):
-            self._between.setdefault(self._ends(number), []).append(number)
-
-    def drop(self, number: int) -> None:
-        """Take out an arc that was taken in, or half of it: Ctrl-C may have come between."""
-        if "_arcs" in vars(self):
-            for name in self._typed(number):
-                _drop(self._arcs, name, number)
-        if "_between" in vars(self):
-            numbers = self._between.get(self._ends(number), [])
-            if number in numbers:
-                numbers.remove(number)
+        """Return the first nodes of the names that several places have."""
+        return self._called[1]
 
     def _typed(self, number: int) -> set[str]:
         """Return the names by which an arc can be typed: how it is called, and its name in the
@@ -264,7 +240,7 @@ class Directory:
         """Return the place with this name. Raise a `DeskFault`."""
         name = self._place_name(cleaned(text))
         if name in self.places:
-            return self.places[name]
+            return self.place_of(self.places[name])
         if name in self._several:
             listed = ", ".join(f"#{number}" for number in self._several[name][:MOST_LISTED])
             raise DeskFault(
@@ -293,11 +269,8 @@ class Directory:
 
     def alike_between(self, tail: int, head: int, name: str) -> list[int]:
         """Return the arcs of a name, which may be empty, between two nodes, in their order."""
-        return sorted(
-            number
-            for number in self._between.get((tail, head), ())
-            if self.arc_name(number) == name
-        )
+        found = self._lines.between(tail, head)
+        return [number for number in found if self.arc_name(number) == name]
 
     def is_place(self, text: str) -> bool:
         return self._place_name(cleaned(text)) in self.places
@@ -311,30 +284,26 @@ class Directory:
         """Return the name of the place that a text names, if it may be in any case, or else the
         text."""
         found = (
-            self._folded_places.get(folded(name), [])
+            self._folded_places.find(folded(name))
             if self.is_any_case and name not in self.places
             else []
         )
         return found[0] if len(found) == 1 else name
 
     @cached_property
-    def _folded_places(self) -> dict[str, list[str]]:
+    def _folded_places(self) -> Index[str]:
         """Return the names of places, by what they are without case and accents."""
-        found: dict[str, list[str]] = {}
-        for name in (*self.places, *self._several):
-            found.setdefault(folded(name), []).append(name)
-        return found
+        names = [*self.places, *self._several]
+        return Index(lambda: folded_names(names), names)
 
-    def _arc_name(self, name: str) -> str:
-        """Return the name of the arcs that a text names, if it may be in any case, or else the
-        text."""
-        if not self.is_any_case or name in self._arcs:
-            return name
-        sought = folded(name)
-        found = [
-            other for other, numbers in self._arcs.items() if numbers and folded(other) == sought
-        ]
-        return found[0] if len(found) == 1 else name
+    def _arcs_called(self, name: str) -> list[int]:
+        """Return the arcs of this name or, if it may be in any case and no arc has it, those of the
+        only name that differs in case and accents alone."""
+        found = self._arcs.find(name)
+        if not found and self.is_any_case:
+            others = self._arcs.spellings(name)
+            return self._arcs.find(others[0]) if len(others) == 1 else []
+        return found
 
     @staticmethod
     def _numbered(name: str) -> int:
@@ -360,13 +329,10 @@ class Directory:
         name = cleaned(text)
         number = self._numbered(name)
         found = {number: None} if 1 <= number <= len(self._lines) else {}
-        found.update(dict.fromkeys(self._arcs.get(self._arc_name(name), ())))
+        found.update(dict.fromkeys(self._arcs_called(name)))
         for tail, head in self._splits(name):
-            found.update(
-                dict.fromkeys(
-                    self._between.get((self.places[tail].exit, self.places[head].entry), ())
-                )
-            )
+            ends = self._folding.second(self.places[tail]), self.places[head]
+            found.update(dict.fromkeys(self._lines.between(*ends)))
         return sorted(self._pipes.numbers(found))
 
     def _splits(self, name: str) -> Iterator[tuple[str, str]]:
@@ -400,16 +366,3 @@ class Directory:
     def list(self, numbers: Sequence[int]) -> str:
         listed = ", ".join(f"#{number} ({self.arc(number)})" for number in numbers[:MOST_LISTED])
         return listed + ", .." * (len(numbers) > MOST_LISTED)
-
-
-def _put(found: dict[str, tuple[int, ...]], name: str, number: int) -> None:
-    """Add an arc to those of a name."""
-    others = found.get(name, ())
-    if number not in others:
-        found[name] = (*others, number)
-
-
-def _drop(found: dict[str, tuple[int, ...]], name: str, number: int) -> None:
-    """Remove an arc from those of a name, if it is one of them."""
-    if name in found:
-        found[name] = tuple(other for other in found[name] if other != number)

@@ -422,7 +422,6 @@ class NetworkArcs:
         self.lines.append(line, arc.given_key)
         self.names.put(arc.number)
         if replaced:
-            self.names.drop(replaced)
             self.lines[replaced - 1] = was._replace(is_replaced=True)
 
     def _drop(self, number: int, replaced: int | None) -> None:
@@ -431,7 +430,6 @@ class NetworkArcs:
         self.pipes.drop(number, replaced)
         self.lines.pop()
         if replaced:
-            self.names.put(replaced)
             self.lines[replaced - 1] = self.lines[replaced - 1]._replace(is_replaced=False)
 
 

@@ -137,7 +137,9 @@ class BuiltProblem:
 
     def arc_names(self) -> dict[int, Hashable]:
         """Return the names of all arcs that have one, by number."""
-        return {**self.row_names(), **self.inner_names}
+        names: dict[int, Any] = self.row_names()
+        names.update(self.inner_names)
+        return names
 
     @property
     def columns(self) -> ProblemColumns:

@@ -29,28 +29,18 @@ def cleaned(text: str) -> str:
     return " ".join(text.replace("\ufeff", " ").split())
 
 
-def numbers_by_name(names: Mapping[int, str]) -> dict[str, tuple[int, ...]]:
-    """Return the numbers by what can be typed for these names."""
-    typed = [*names.values()]
-    if not _are_typed("\n".join(typed)):
-        typed = [cleaned(display(name)) for name in typed]
-    numbers: Iterable[tuple[int, ...]] = zip(names)
-    found = dict(zip(typed, numbers))
-    if len(found) < len(typed):
-        found = {}
-        for number, name in zip(names, typed):
-            found[name] = (*found.get(name, ()), number)
-    return found
+def shown_names(names: Sequence[str]) -> Sequence[str]:
+    """Return how each of these names is shown, by `display`."""
+    return names if "".join(names).isprintable() else [*map(display, names)]
 
 
-def _are_typed(lines: str) -> bool:
-    """Return True if each of these lines is surely typed as it is: in printable ASCII, without more
-    space than `cleaned` leaves."""
-    return (
-        lines.isascii()
-        and lines.replace("\n", "").isprintable()
-        and not any(space in f"\n{lines}\n" for space in ("  ", "\n ", " \n"))
-    )
+def typed_names(names: Sequence[str]) -> Sequence[str]:
+    """Return what can be typed for each of these names: how it is shown, cleaned."""
+    shown = shown_names(names)
+    lines = "\n".join(shown)
+    # What is shown has no other white space than blanks.
+    is_clean = not any(blanks in f"\n{lines}\n" for blanks in ("  ", "\n ", " \n"))
+    return names if is_clean and shown is names else [*map(cleaned, shown)]
 
 
 def quoted_name(text: str) -> str:
@@ -80,6 +70,14 @@ def nearest(name: str, places: Iterable[str]) -> list[str]:
         if len(place) <= LONGEST_COMPARED
     }
     return [folded[it] for it in difflib.get_close_matches(name.casefold(), folded, n=3)]
+
+
+def folded_names(names: Sequence[str]) -> list[str]:
+    """Return each of these names without case and accents."""
+    lines = "\n".join(names)
+    found = lines.casefold().split("\n") if lines.isascii() else []
+    # A name may have a line feed.
+    return found if len(found) == len(names) else [*map(folded, names)]
 
 
 def folded(text: str) -> str:

@@ -200,6 +200,8 @@ def _written(text: str) -> str:
 # The verb for what a place does in each role, and a shorter one beside its numbers.
 DOES = {SUPPLY: "gives at most", DEMAND: "takes at most", LIMIT: "lets through"}
 AT_PLACE = {SUPPLY: "gives", DEMAND: "takes", LIMIT: "lets through"}
+# How the words begin that say what an inner arc stands for.
+ROLE_WORD = "what "
 MOST_ENDS = 6
 
 
@@ -219,8 +221,9 @@ class TableRoles:
             for joint, ends in described.joints.items():
                 if role.kind == (SUPPLY if ends == SOURCES else DEMAND):
                     self._at_joints[joint].append(role.node)
-        # True if the problem may have arcs that its table does not have.
-        self.has_roles = bool(self._joints or self._first)
+        # The nodes at which the problem may have arcs that its table does not have.
+        self.inner_nodes = {*self._joints, *self._first}
+        self.has_roles = bool(self.inner_nodes)
         # True if an inner arc stands for an unlimited source or sink.
         self.has_unlimited = bool(self._unlimited)
 
@@ -331,7 +334,7 @@ class TableRoles:
 
 def role_words(role: Role, label: Callable[[int], str]) -> str:
     """Return what an inner arc stands for: `what Mill gives at most`."""
-    return f"what {role_phrase(role, label)}"
+    return ROLE_WORD + role_phrase(role, label)
 
 
 def role_phrase(role: Role, label: Callable[[int], str]) -> str:

@@ -438,8 +438,8 @@ def _sign_of(cells: Sequence[str]) -> str:
 def placed(desk: Desk, given: Map) -> tuple[dict[int, Spot], list[str]]:
     """Return the spots of the desk's places in a picture, by their nodes, and notes on the map."""
     found = {
-        place.entry: given.spots[name]
-        for name, place in desk.network.names.places.items()
+        node: given.spots[name]
+        for name, node in desk.network.names.places.items()
         if name in given.spots
     }
     if not found:

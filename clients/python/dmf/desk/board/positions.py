@@ -20,7 +20,7 @@ def kept_spots(desk: Desk) -> dict[int, Spot]:
         return {}
     places = desk.network.names.places
     return {
-        places[name].entry: Spot(*spot)
+        places[name]: Spot(*spot)
         for name, spot in project.project.positions.items()
         if name in places
     }

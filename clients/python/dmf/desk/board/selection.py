@@ -156,8 +156,7 @@ class ArcList:
         network = self._desk.network
         sought, names = folded(text), network.names
         places = [
-            (folded(label), {"label": label, "node": place.entry})
-            for label, place in names.places.items()
+            (folded(label), {"label": label, "node": node}) for label, node in names.places.items()
         ]
         arcs = [
             (self._label(number), {"label": names.arc(number), "number": number})

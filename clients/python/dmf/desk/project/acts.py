@@ -192,7 +192,7 @@ def place_name(network: LiveNetwork, node: int) -> PlaceName:
     """Return the name of a node's place, or the number of the node if that is not the name of it
     alone."""
     place, label = network.names.place_of(node), network.names.spoken_place(node)
-    return label if network.names.places.get(label) == place else place.entry
+    return label if network.names.places.get(label) == place.entry else place.entry
 
 
 def place_meant(network: LiveNetwork, name: PlaceName) -> Place:
@@ -201,7 +201,7 @@ def place_meant(network: LiveNetwork, name: PlaceName) -> Place:
         return network.names.place_of(name)
     if name not in network.names.places:
         raise DeskFault(f"no place is called {quoted_name(name)}")
-    return network.names.places[name]
+    return network.names.place_of(network.names.places[name])
 
 
 def arc_name(network: LiveNetwork, number: int) -> ArcName:
