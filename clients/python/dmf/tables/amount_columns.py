@@ -10,6 +10,7 @@ from array import array
 from collections.abc import Callable, Iterable, Iterator, Sequence
 from dataclasses import dataclass
 from decimal import Decimal
+from itertools import compress, count
 from math import gcd
 from typing import Optional, Union
 
@@ -230,7 +231,10 @@ class Amounts:
         units: dict[str, int] = {}
         for piece in self._pieces:
             if piece.plain:
-                units.setdefault("", piece.first)
+                # A 0 needs no unit.
+                place = next(compress(count(piece.first), piece.plain.numbers), None)
+                if place is not None:
+                    units.setdefault("", place)
                 continue
             for place, cell in enumerate(piece.cells(), piece.first):
                 found, unit = self.reading(cell)

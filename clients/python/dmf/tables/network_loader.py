@@ -19,13 +19,13 @@ from .loader import TableOptions, complete, load_tables, plan_of_sheet, split_pa
 from .other_columns import extra_of
 from .problem_builder import NetworkTables, net_of
 from .setting_question import amount_of, daily_of, shift_of, tanks_of, velocity_of
-from .sheet import Rows, Sheet, naming
+from .sheet import PIECE, Rows, Sheet, naming
 from .table_answers import FoldedColumns, InnerNode, with_room
 from .table_file import ReadOptions
 from .table_network import TableNetwork
 from .titles import DEMAND, LIMIT, SUPPLY
 from .warnings import warnings
-from .workbook import cell_text
+from .workbook import cell_texts
 
 # A place, several, or how much each gives or takes at most, which is None if that has no limit.
 Path = Union[str, "os.PathLike[str]"]
@@ -232,7 +232,7 @@ def _sheet_of_frame(frame: Any) -> Sheet:
     titles = list(frame.keys()) if hasattr(frame, "keys") else list(frame.columns)
     columns = [frame[title] for title in titles]
     cells = [
-        [cell_text(value) for value in (column.tolist() if hasattr(column, "tolist") else column)]
+        cell_texts(column.tolist() if hasattr(column, "tolist") else [*column])
         for column in columns
     ]
     if len({len(column) for column in cells}) > 1:
@@ -240,9 +240,16 @@ def _sheet_of_frame(frame: Any) -> Sheet:
             "the columns have several lengths: "
             f"{', '.join(sorted({str(len(column)) for column in cells}))}"
         )
-    rows = [list(map(str, titles)), *map(list, zip(*cells))]
-    return Sheet("", partial(_rows, rows))
+    titled = [[str(title), *column] for title, column in zip(titles, cells)]
+    return Sheet("", partial(_rows, titled))
 
 
-def _rows(rows: list[list[str]]) -> Iterator[Rows]:
-    yield Rows(range(1, len(rows) + 1), rows)
+def _rows(columns: list[list[str]]) -> Iterator[Rows]:
+    """Yield the rows of a table with these columns."""
+    if not columns:
+        yield Rows(range(1, 2), [[]])
+        return
+    count = len(columns[0])
+    for begin in range(0, count, PIECE):
+        lines = range(begin + 1, min(begin + PIECE, count) + 1)
+        yield Rows(lines, None, [column[begin : begin + PIECE] for column in columns])

@@ -11,7 +11,7 @@ from math import gcd
 from operator import mul
 
 from ..quantity import POINT, SIGNS
-from .sheet import PIECE
+from .sheet import PIECE, Exact
 
 # The most characters of a number that is read together with others.
 PLAIN_LENGTH = 18
@@ -54,9 +54,11 @@ class Plain:
 
 
 def plain_of(cells: list[str]) -> Plain | None:
-    """Return these cells, if they are plain and not too long."""
+    """Return these cells, if they are plain and not too long. Those of a workbook or a frame, all
+    of which are numbers already, say nothing of the decimal sign."""
+    kinds = set(map(type, cells))
     if (
-        set(map(type, cells)) != {str}
+        kinds not in ({str}, {Exact})
         or not 0 < min(map(len, cells)) <= max(map(len, cells)) <= PLAIN_LENGTH
     ):
         return None
@@ -66,7 +68,10 @@ def plain_of(cells: list[str]) -> Plain | None:
         return Plain([*map(int, cells)]) if text.isascii() else None
     for sign in SIGNS:
         if digits.replace(sign, "").isdigit():
-            return None if _NO_NUMBER[sign].search(text) else _plain_decimals(cells, text, sign)
+            if _NO_NUMBER[sign].search(text):
+                return None
+            plain = _plain_decimals(cells, text, sign)
+            return plain if kinds == {str} else Plain(plain.numbers, plain.decimals)
     return None
 
 

@@ -240,7 +240,7 @@ def _reaches(net: BuiltProblem) -> bool:
         if capacity:
             heads[tail].append(head)
     seen, left = {net.source}, [net.source]
-    while left:
+    while left and net.sink not in seen:
         new = [head for head in heads[left.pop()] if head not in seen]
         seen.update(new)
         left += new

@@ -15,6 +15,7 @@ from functools import partial
 from typing import Any
 
 from ..errors import TableFault
+from ..quantity import POINT
 from .sheet import PIECE, Exact, Rows, Sheet, is_blank, shown_number
 from .table_file import TableFile
 from .xlsx import Workbook
@@ -94,6 +95,25 @@ def cell_text(value: Any) -> str:
     if isinstance(value, datetime.datetime) and value.time() == datetime.time():
         return value.date().isoformat()
     return "" if str(value) in ("<NA>", "NaT") else str(value)
+
+
+def cell_texts(values: list[Any]) -> list[str]:
+    """Return what the cells of a column have, as `cell_text` does, faster if all are alike."""
+    kinds = set(map(type, values))
+    if kinds == {str}:
+        return values
+    if kinds == {int}:
+        return [*map(Exact, map(str, values))]
+    if kinds == {float}:
+        # What has no more digits than a workbook shows stands there as it is.
+        texts = map(repr, values)
+        return [
+            Exact(text)
+            if len(text) <= _SHOWN.prec + len(POINT) and "e" not in text and "n" not in text
+            else cell_text(value)
+            for text, value in zip(texts, values)
+        ]
+    return [*map(cell_text, values)]
 
 
 def _xlsx(data: bytes, path: str) -> list[Sheet]:
