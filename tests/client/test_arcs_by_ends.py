@@ -6,6 +6,7 @@ from __future__ import annotations
 from array import array
 from pathlib import Path
 from random import Random
+from typing import Any
 
 import numpy  # noqa: F401 (with it loaded, it is used)
 import pytest
@@ -65,7 +66,7 @@ def test_the_first_makes_no_index(tmp_path: Path) -> None:
         assert network.solve().value == 4
         assert network.cap(("B", "C"), 3) == 3
         columns = network._kept.columns
-        assert not {"_by_ends", "_by_key"} & set(vars(columns))
+        assert not {"_by_ends", "_by_key"} & set(vars(columns)) and callable(columns._given)
         with pytest.raises(dmf.AmbiguousArc):
             network.cap(("A", "B"), 1)
         with pytest.raises(dmf.NoSuchArc):
@@ -76,3 +77,27 @@ def test_the_first_makes_no_index(tmp_path: Path) -> None:
         assert pairs.solve().value == 3
         assert pairs.cap(("x", "y"), 2) == 2
         assert pairs.solve().value == 2
+
+
+@pytest.mark.parametrize("both_ways", [False, True])
+@pytest.mark.parametrize("is_named", [False, True])
+def test_names_one_by_one(both_ways: bool, is_named: bool) -> None:
+    """An arc has the same name, whether the names of all arcs are made or not. The arcs of two
+    sources and of a limit have none."""
+    names = ["P1", "", "P1", "P4"]
+    ends: dict[str, list[Any]] = {
+        "from": ["A", "B", "A", "C"],
+        "to": ["B", "C", "C", "D"],
+        "capacity": [5, 4, 2, 9],
+    }
+    table = {**ends, "name": names} if is_named else ends
+    with dmf.read_table(
+        table, source={"A": 3, "B": 1}, sink="D", limits={"C": 4}, both_ways=both_ways
+    ) as network:
+        columns = network._kept.columns
+        numbers = range(1, len(columns) + 1)
+        found = [columns.key(number) for number in numbers]
+        assert callable(columns._given)
+        given = [name or None for name in names for _ in range(1 + both_ways)]
+        wanted = [*(given if is_named else [None] * len(given)), *[None] * 3]
+        assert found == wanted == [columns.keys.get(number) for number in numbers]

@@ -128,7 +128,7 @@ class Handles(Generic[Node]):
                 columns.names[columns.heads[number - 1] - 1],
             )
             # If two threads make one at once, both get the same.
-            made = Arc(number, tail, head, columns.keys.get(number), self.owner)
+            made = Arc(number, tail, head, columns.key(number), self.owner)
             arc = self._made.setdefault(number, made)
         return arc
 

@@ -7,8 +7,8 @@ import functools
 from array import array
 from collections import defaultdict
 from collections.abc import Callable, Hashable, Iterable, Iterator, Mapping, Sequence
-from itertools import compress, count, repeat
-from operator import add, gt, mul
+from itertools import compress, count
+from operator import gt
 from typing import TYPE_CHECKING, Any, Generic, TypeVar
 
 from .errors import NoSuchArc, shown_value
@@ -163,6 +163,10 @@ class Columns(Generic[Node]):
             self._given = self._given()
         return self._given
 
+    def key(self, number: int) -> Hashable:
+        """Return the key that was given to an arc, or None."""
+        return self.keys.get(number)
+
     @functools.cached_property
     def names(self) -> Sequence[Node]:
         """The nodes in the order of their numbers."""
@@ -173,7 +177,7 @@ class Columns(Generic[Node]):
     def _by_ends(self) -> Index[int]:
         scale = len(self.numbers) + 1
         return Index(
-            lambda: map(add, map(mul, self.tails, repeat(scale)), self.heads),
+            lambda: (tail * scale + head for tail, head in zip(self.tails, self.heads)),
             range(1, len(self) + 1),
         )
 

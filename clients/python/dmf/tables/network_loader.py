@@ -43,7 +43,13 @@ def network_of_plan(plan: NetworkTables, program: Program, history: Optional[int
         for number in range(len(numbers) + 1, len(net.node_names) + 1)
     )
     columns = FoldedColumns(
-        numbers, net.tails, net.heads, net.row_names, net.described, net.inner_names
+        numbers,
+        net.tails,
+        net.heads,
+        net.row_names,
+        net.described,
+        net.inner_names,
+        net.row_name,
     )
     nodes = list(numbers)
     kept: NetworkState[Any] = NetworkState(

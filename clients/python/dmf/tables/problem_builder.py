@@ -135,6 +135,11 @@ class BuiltProblem:
             names = (name for name in self.labels for _ in range(self.ways))
         return {number: name for number, name in enumerate(names, 1) if name}
 
+    def row_name(self, number: int) -> Optional[str]:
+        """Return the name of an arc, if it belongs to a row that has one."""
+        place = (number - 1) // self.ways
+        return self.labels[place] or None if place < len(self.labels) else None
+
     def arc_names(self) -> dict[int, Hashable]:
         """Return the names of all arcs that have one, by number."""
         names: dict[int, Any] = self.row_names()

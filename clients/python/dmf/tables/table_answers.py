@@ -4,10 +4,10 @@ nodes and arcs are not of the table."""
 from __future__ import annotations
 
 from array import array
-from collections.abc import Collection, Iterable, Iterator, Mapping
+from collections.abc import Callable, Collection, Iterable, Iterator, Mapping
 from dataclasses import dataclass
 from functools import cached_property
-from typing import Any, cast
+from typing import Any, Optional, cast
 
 from ..arcs import Arc
 from ..columns import Columns
@@ -32,7 +32,8 @@ class InnerNode:
 class FoldedColumns(Columns[Any]):
     """The arcs of the network of a table. A place with a limit has two nodes: arcs into it enter
     the first, which has its name, and arcs out of it leave the second. `inner_names` has the names
-    of the arcs that are not in the table."""
+    of the arcs that are not in the table, and `row_name` returns the name of another arc, if it has
+    one, without making all."""
 
     described: TableComments
 
@@ -44,10 +45,12 @@ class FoldedColumns(Columns[Any]):
         keys: Any,
         described: TableComments,
         inner_names: Mapping[int, str],
+        row_name: Optional[Callable[[int], Optional[str]]] = None,
     ) -> None:
         super().__init__(numbers, tails, heads, keys)
         self.described = described
         self.inner_names = inner_names
+        self._row_name = row_name
         self.outlets = {first: second for second, first in described.halves.items()}
 
     def __reduce__(self) -> tuple[Any, ...]:
@@ -62,9 +65,11 @@ class FoldedColumns(Columns[Any]):
 
     def with_node(self, node: Any) -> FoldedColumns:
         numbers = {**self.numbers, node: len(self.numbers) + 1}
-        return FoldedColumns(
-            numbers, self.tails, self.heads, self._same_keys(), self.described, self.inner_names
-        )
+        columns = numbers, self.tails, self.heads, self._same_keys()
+        return FoldedColumns(*columns, self.described, self.inner_names, self._row_name)
+
+    def key(self, number: int) -> Any:
+        return self._row_name(number) if self._row_name else super().key(number)
 
     @cached_property
     def names(self) -> list[Any]:
