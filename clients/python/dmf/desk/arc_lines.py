@@ -148,17 +148,12 @@ class ArcLines(Sequence[DeskArc]):
 
     def present(self, numbers: Sequence[int]) -> list[int]:
         """Return those of these arcs that were not opened again as other ones."""
-        first, made, added = self._first_count, self._made, self._added
         # What was opened again is an arc that was added.
-        return (
-            [
-                number
-                for number in numbers
-                if not (
-                    line := made.get(number - 1) if number <= first else added[number - 1 - first]
-                )
-                or not line.is_replaced
-            ]
-            if added
-            else [*numbers]
-        )
+        if not self._added:
+            return [*numbers]
+        return [number for number in numbers if not self._is_replaced(number)]
+
+    def _is_replaced(self, number: int) -> bool:
+        is_added = number > self._first_count
+        line = self[number - 1] if is_added else self._made.get(number - 1)
+        return line is not None and line.is_replaced
