@@ -106,12 +106,12 @@ def cell_texts(values: list[Any]) -> list[str]:
         return [*map(Exact, map(str, values))]
     if kinds == {float}:
         # What has no more digits than a workbook shows stands there as it is.
-        texts = map(repr, values)
+        most = _SHOWN.prec + len(POINT)
         return [
             Exact(text)
-            if len(text) <= _SHOWN.prec + len(POINT) and "e" not in text and "n" not in text
+            if len(text) <= most and "e" not in text and "n" not in text
             else cell_text(value)
-            for text, value in zip(texts, values)
+            for text, value in zip(map(repr, values), values)
         ]
     return [*map(cell_text, values)]
 
