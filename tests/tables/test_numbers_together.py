@@ -11,7 +11,9 @@ import pytest
 from dmf.errors import TableFault
 from dmf.tables import amount_columns, network_loader
 from dmf.tables.amount_columns import Amounts
-from dmf.tables.sheet import Faults
+from dmf.tables.arcs_and_places import read_arcs
+from dmf.tables.sheet import Faults, Rows, Sheet
+from dmf.tables.table_file import ReadOptions
 from dmf.tables.workbook import cell_text, cell_texts
 from hypothesis import example, given
 from hypothesis import strategies as some
@@ -47,6 +49,17 @@ VALUES = some.one_of(
     some.lists(some.sampled_from(WHOLE) | some.integers()),
     some.lists(some.sampled_from(TEXTS)),
     some.lists(some.sampled_from([*FLOATS, *ODD, *WHOLE, *DECIMALS, *TEXTS, None, True])),
+)
+NAMES = some.sampled_from(["A", "B", "\u00c4rger", "a  b", " A", "", "Total", "from", None, 7, 2.0])
+ROWS = some.lists(
+    some.tuples(
+        NAMES,
+        NAMES,
+        NUMBERS | some.sampled_from([*TEXTS, None]) | some.sampled_from([1.5, 20.0, 3]),
+        some.sampled_from(["p", "q", "", None, 3.5]),
+    ),
+    min_size=1,
+    max_size=9,
 )
 # The cells of pieces of a column: numbers alone, zeros alone, and with texts.
 PIECES = some.lists(
@@ -105,14 +118,30 @@ def test_columns(pieces: list[list[Any]], unit: str, given: str, usual: str) -> 
         assert found == read(cells, unit, given, usual)
 
 
-@given(some.lists(NUMBERS | some.just(float("nan")), min_size=1, max_size=8))
-def test_frames(capacities: list[Any]) -> None:
-    """A frame has the capacities that the same rows have one by one."""
-    frame = load("pandas").DataFrame({"from": "a", "to": "b", "capacity": capacities})
-    columns = [[str(title), *map(cell_text, frame[title].tolist())] for title in frame]
-    rows = [[*row] for row in zip(*columns)]
-    plan = network_loader._sheet_of_frame(frame)
-    assert [row for piece in plan.read() for row in piece.cells] == rows
+def table_of(sheet: Sheet) -> list[object]:
+    """Return all that is read of a table, or what is wrong with it."""
+    try:
+        table = read_arcs(sheet, ReadOptions())
+    except TableFault as fault:
+        return [*fault.lines()]
+    amounts = [table.amounts.quantity(row) for row in range(len(table.tails))]
+    arcs = [*table.tails, *table.heads, *table.lines, *table.labels, *amounts]
+    return [*table.places, *arcs, *table.notes, table.amounts.unit, *table.respelled.items()]
+
+
+@given(ROWS, some.sampled_from([1, 2, 5, 1 << 10]), some.booleans())
+def test_frames(rows: list[tuple[Any, ...]], size: int, by_pandas: bool) -> None:
+    """A frame has the arcs that the same rows have one by one, with odd rows among them."""
+    columns: dict[str, list[Any]] = {
+        title: [*column] for title, column in zip(["from", "to", "capacity", "name"], zip(*rows))
+    }
+    frame = load("pandas").DataFrame(columns) if by_pandas else columns
+    values = frame.to_dict("list") if by_pandas else columns
+    cells = [[*values], *([*map(cell_text, row)] for row in zip(*values.values()))]
+    wanted = table_of(Sheet("", lambda: iter([Rows(range(1, len(cells) + 1), cells)])))
+    with pytest.MonkeyPatch.context() as patch:
+        patch.setattr(network_loader, "PIECE", size)
+        assert table_of(network_loader._sheet_of_frame(frame)) == wanted
 
 
 @pytest.mark.parametrize("size", [1, 3, 1 << 10])
