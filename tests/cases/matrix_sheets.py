@@ -185,7 +185,80 @@ MATRICES: dict[str, Sequence[Matrix]] = {
             {"Mill": 20, "Hill": 15, "Town": 60},
         )
     ],
+    # The same needs above the titles.
+    "matrix-demand-above.csv": [
+        Matrix(
+            "to the titles of the 3 other columns, demands from the row 'Demand' (line 2); empty",
+            ENGLISH,
+            {"Lake": None},
+            {"Mill": 5, "Hill": 10, "Town": 60},
+            75,
+            [
+                "the titles are in line 3; what stands above is left out: 'Pipes of the valley'",
+                *notes,
+            ],
+            given=given,
+        )
+        for notes, given in NAMED_OR_FOUND
+    ],
+    "matrix-offre-left.csv": [
+        Matrix(
+            "a matrix: from 'de / vers', to the titles of the 2 other columns, supplies from the"
+            " column 'Offre', demands from the row 'Besoins' (line 1); empty",
+            [
+                ("Lac", "Moulin", 50),
+                ("Lac", "Ville", 30),
+                ("Source haute", "Moulin", 20),
+                ("Source haute", "Ville", 15),
+            ],
+            {"Lac": 60, "Source haute": 30},
+            {"Moulin": 40, "Ville": 50},
+            85,
+            given=given,
+        )
+        for given in ({}, {"matrix": True})
+    ],
+    "matrix-numbered.csv": [
+        Matrix(
+            "a matrix: from 'from \\\\ to', to the titles of the 3 other columns; empty cells",
+            ENGLISH,
+            {"Lake": None},
+            {"Town": None},
+            65,
+            ["numbers of the rows are left out: the column 'No.'"],
+        )
+    ],
     # What asks without an option.
+    "matrix-staff-above.csv": [
+        Matrix(
+            "demands from the row 'Staff per day' (line 1)",
+            ENGLISH,
+            {"Lake": None},
+            {"Mill": 5, "Hill": 10, "Town": 60},
+            75,
+            given={"needs": "Staff per day"},
+        ),
+        Matrix(
+            "to the titles of the 3 other columns; empty",
+            ENGLISH,
+            {"Lake": None},
+            {"Town": None},
+            65,
+            ["left out, as asked: the row 'Staff per day' (line 1)"],
+            given={"ignore": ["Staff per day"]},
+        ),
+    ],
+    "matrix-kennwert.csv": [
+        Matrix(
+            "to the titles of the 3 other columns; empty",
+            GERMAN,
+            {"See": None},
+            {"Stadt": None},
+            65,
+            ["left out, as asked: the column 'Kennwert', the column 'Belag'"],
+            given={"ignore": ["Kennwert", "column 6"]},
+        )
+    ],
     "matrix-orders.csv": [
         Matrix(
             "demands from the row 'Orders' (line 5)",
@@ -285,6 +358,20 @@ ASKED_MATRICES: dict[str, Asked] = {
         [
             "line 5, column 'from\\\\to': 'Mean' may be a place, or say something of places: give"
             " --ignore 'Mean' to leave it out, or --source 'Mean' if it is a place"
+        ]
+    ),
+    "matrix-staff-above.csv": Asked(
+        [
+            "line 1: 'Staff per day' stands above the titles, and has numbers: give --needs 'Staff"
+            " per day' if that is what places take, or --ignore 'Staff per day' to leave it out"
+        ]
+    ),
+    "matrix-kennwert.csv": Asked(
+        [
+            "line 1, column 'Kennwert': 'Kennwert' may be no place, since each of its cells is the"
+            " mean of the others in its row: give --ignore 'Kennwert' to leave it out, or --sink"
+            " 'Kennwert' if it is a place",
+            "line 1, column 'Belag': 'Belag' has texts, and no number: give --ignore 'Belag' to",
         ]
     ),
     "matrix-demand-twice.csv": Asked(

@@ -108,14 +108,25 @@ WORDS = [
 
 @pytest.mark.parametrize("need, supply, limit", WORDS)
 def test_words(tmp_path: Path, need: str, supply: str, limit: str) -> None:
-    """As rows and as columns: of 9 that can go from A to B, 4 do for each reason alone."""
-    row, column = "A,9\n{},4\n", "A,9,4\n"
+    """As rows and as columns, also above the titles and left of the names: of 9 that can go from A
+    to B, 4 do for each reason alone."""
+    row, column, left = "A,9\n{},4\n", "A,9,4\n", "4,A,9\n"
+    above = "{},4\nfrom\\to,B\nA,9\n"
     texts: dict[str, list[tuple[str, dict[str, str]]]] = {
-        need: [(f"from\\to,B\n{row}".format(need), {"source": "A"})],
-        supply: [(f"from\\to,B,{supply}\n{column}", {"sink": "B"})],
+        need: [
+            (f"from\\to,B\n{row}".format(need), {"source": "A"}),
+            (above.format(need), {"source": "A"}),
+            (f"{need},from\\to,B\n,A,9\n4,B,\n", {}),
+        ],
+        supply: [
+            (f"from\\to,B,{supply}\n{column}", {"sink": "B"}),
+            (f"{supply},from\\to,B\n{left}", {"sink": "B"}),
+        ],
         limit: [
             (f"from\\to,B\n{row}".format(limit), {}),
+            (above.format(limit), {}),
             (f"from\\to,B,{limit}\n{column}", {}),
+            (f"{limit},from\\to,B\n{left}", {}),
         ],
     }
     texts[need].append((f"from\\to,B,{need}\nA,9,\nB,,4\n", {}))
@@ -147,6 +158,88 @@ def test_all_questions_at_once() -> None:
         "t.csv, line 4, column 'from\\\\to': 'Orders'",
         "t.csv, line 5, column 'from\\\\to': 'Mean'",
     ]
+
+
+# Titles of the four languages that are hardly those of places.
+NO_PLACES = """Staff per day|Personal|Effectif|Personas por turno|Avg.|Ø|Schnitt pro Tag|Moyenne
+Media|Min|Std dev|Standardabweichung|Écart|Desviación|per day|pro Woche|par jour|por día|Hours
+Stunden|Heures|Horas|Remarks|Anmerkung|Commentaire|Observaciones|Target|Soll|Ist|Difference|Saldo
+Reserve|Priority|Rang|No.|Nr.""".replace(
+    "\n", "|"
+).split(
+    "|"
+)
+
+
+@pytest.mark.parametrize("name", NO_PLACES)
+def test_titles_that_are_hardly_places(name: str) -> None:
+    """As columns and as rows, also above the titles, where numbers of columns are left out."""
+    below = "from\\to,B,C\nA,9,8\n"
+    for text in f"from\\to,B,C,{name}\nA,9,8,3\nD,4,2,1\n", f"{below}{name},4,2\n":
+        told = told_of(text)
+        assert f"'{name}' may be a place, or say" in told and f"--ignore '{name}'" in told
+    if name not in ("No.", "Nr."):
+        told = told_of(f"{name},4,2\n{below}")
+        assert f"'{name}' stands above the titles, and has numbers: give --needs" in told
+
+
+@pytest.mark.parametrize("name", ["Needed", "Required per day", "Staff needed", "erforderlich"])
+def test_titles_of_needs(tmp_path: Path, name: str) -> None:
+    for text in f"{name},4\nfrom\\to,B\nA,9\n", f"from\\to,B\nA,9\n{name},4\n":
+        with read_text(tmp_path, text, source="A") as network:
+            assert network.solve().value == 4
+
+
+@pytest.mark.parametrize("name", ["Σ", "∑", "Grand total", "Sous-total", "Zeilensumme"])
+def test_titles_of_totals(tmp_path: Path, name: str) -> None:
+    with read_text(tmp_path, f"from\\to,B,{name}\nA,9,9\n{name},9,9\n") as network:
+        assert network.solve().value == 9 and f"the column '{name}'" in network.notes[1]
+
+
+@pytest.mark.parametrize("third, what", [("9;14;5", "sum"), ("3;2;2,5", "least"), ("5;5;5", "")])
+@pytest.mark.parametrize("is_row", [False, True])
+def test_cells_of_no_place(third: str, what: str, is_row: bool) -> None:
+    """A title that no list has is asked for if its cells say that it is no place; otherwise it
+    is one."""
+    rows = [["from\\to", "B", "C", "X"], ["A", "3", "6"], ["D", "12", "2"], ["E", "2,5", "2,5"]]
+    for row, cell in zip(rows[1:], third.split(";")):
+        row.append(cell)
+    rows = [list(column) for column in zip(*rows)] if is_row else rows
+    text = "\n".join(map(";".join, rows)) + "\n"
+    option = "source" if is_row else "sink"
+    if what:
+        assert f"each of its cells is the {what} of the others in its" in told_of(text)
+        assert f"--{option} 'X' if it is a place" in told_of(text)
+    ends = {"source": [*"ADE"], "sink": [*"BCX"]}
+    ends = {"source": ends["sink"], "sink": ends["source"]} if is_row else ends
+    subject_of(TableOptions(**ends), "t.csv", text.encode())
+
+
+@pytest.mark.parametrize("cells", ["4.5;7;3", "3;4.7;2"])
+def test_means(cells: str) -> None:
+    """Also a mean that is rounded, in which empty cells count as 0."""
+    rows = ["A,3,6,,{}", "D,12,2,,{}", "E,2,4,,{}"]
+    text = "\n".join(row.format(cell) for row, cell in zip(rows, cells.split(";")))
+    assert "is the mean of" in told_of(f"from\\to,B,C,F,X\n{text}\n")
+
+
+def test_equal_cells_ask_nothing(tmp_path: Path) -> None:
+    """Where all cells are the same, a place looks like a mean."""
+    ends = {"source": [*"AD"], "sink": [*"BC"]}
+    with read_text(tmp_path, "from\\to,B,C\nA,5,5\nD,5,5\n", **ends) as network:
+        assert network.solve().value == 20
+
+
+def test_numbers_above_titles() -> None:
+    """One number of several, and numbers that nobody named, are asked for; a day is left out."""
+    below = "from\\to,B,C\nA,1,2\n"
+    assert "'Total demand' stands above the titles" in told_of(f"Total demand,3\n{below}")
+    assert "move it below the titles if that is what places let through" in told_of(
+        f"Max. flow,3\n{below}"
+    )
+    assert "line 1: numbers stand above the titles, and nothing says" in told_of(f",3,4\n{below}")
+    assert "'Demand' stands above the titles" in told_of(f"Demand,3,4,7\n{below}")
+    assert "both say what places take" in told_of(f"Demand,3,4\n{below}Demand,3,4\n")
 
 
 @pytest.mark.parametrize(

@@ -196,9 +196,10 @@ def _add_beside(plan: NetworkTables, sheet: Sheet, wanted: TableOptions) -> None
     what options name; else it counts only if they name no table of places."""
     if sheet.gives_way:
         before, named = len(plan.terms), wanted.kinds_named
+        headings = len(plan.headings)
         _add_places(plan, sheet, PLACE_COLUMNS, wanted)
         # Nobody wrote these titles.
-        plan.headings.pop()
+        del plan.headings[headings:]
         said = plan.terms[before:]
         plan.terms[before:] = [term for term in said if term.kind not in named]
         for kind, noun in (SUPPLY, "supplies"), (DEMAND, "demands"), (LIMIT, "limits"):

@@ -14,7 +14,17 @@ from ..text.spelling import cleaned, quoted_name
 from .amount_cells import is_limitless, is_missing, no_number, read_cell
 from .arcs_and_places import MARKS
 from .headings import PLACE_COLUMNS
-from .matrices import LEFT_OUT, TITLES_AGAIN, TOTAL, UNITS, Matrix, MatrixFinder, titles_in
+from .matrices import (
+    COUNTED,
+    LEFT_OUT,
+    TITLES_AGAIN,
+    TOTAL,
+    UNITS,
+    Corner,
+    Matrix,
+    MatrixFinder,
+    corner_in,
+)
 from .readers import CrossTables, first_rows
 from .rosters import refuse_options
 from .sheet import Exact, Faults, Rows, Sheet, is_blank
@@ -61,41 +71,47 @@ def matrix_tables(
     if it is none. `ends` are the places that options name as sources and sinks, by `supply` and
     `demand`. Raises a `TableFault`."""
     sample = first_rows(sheet)
-    at = None if reading.titles or sheet.taken else titles_in(sample, is_asked=reading.is_matrix)
-    if at is None:
+    is_open = not (reading.titles or sheet.taken)
+    corner = corner_in(sample, is_asked=reading.is_matrix) if is_open else None
+    if corner is None:
         return None
     refuse_options(reading, is_matrix=True)
-    return _MatrixReader(sheet, sample, at, reading, ends).tables()
+    return _MatrixReader(sheet, sample, corner, reading, ends).tables()
 
 
 class _MatrixReader:
-    """A reader of the rows of a matrix whose titles stand `at` rows below the first one."""
+    """A reader of the rows of a matrix."""
 
     def __init__(
         self,
         sheet: Sheet,
         sample: Rows,
-        at: int,
+        corner: Corner,
         reading: ReadOptions,
         ends: Mapping[str, Collection[str]],
     ) -> None:
         self.sheet = sheet
+        at = corner.at
         titles = [cleaned(cell) for cell in sample.cells[at]]
         self.faults = Faults(sheet.path, titles)
-        self.matrix = Matrix(sample.lines[at], titles, {})
-        self.notes = [told_above(sample, at)] if at else []
+        self.matrix = Matrix(sample.lines[at], titles, corner.column)
+        self.notes: list[str] = []
         self.units: dict[int, str] = {}
         self.said: list[_SaidCell] = []
         self.row_totals: list[tuple[int, list[str]]] = []
         self.sums = [_Sum() for _ in titles]
         self._refuse_same_titles()
+        self._take_above(sample, at)
         if at + 1 < len(sample) and has_units(sample.cells[at + 1]):
             self._take_units(sample.lines[at + 1], sample.cells[at + 1])
         for line, row in self._rows():
-            self.matrix.names[line] = cleaned(row[0])
+            if line > self.matrix.line:
+                self.matrix.names[line] = cleaned(self._name(row))
             if [*map(cleaned, row)] == titles:
                 self.matrix.rows[line] = TITLES_AGAIN
-        MatrixFinder(self.matrix, reading, ends, self.faults).find()
+        finder = MatrixFinder(self.matrix, reading, ends, self.faults)
+        finder.find()
+        finder.judge_cells(self._rows())
         self.faults.judge()
         self.has_totals = TOTAL in {*self.matrix.rows.values(), *self.matrix.columns.values()}
 
@@ -112,14 +128,30 @@ class _MatrixReader:
         return CrossTables(arcs, places, names)
 
     def _rows(self) -> Iterator[tuple[int, list[str]]]:
-        """Yield the rows below the titles, with their lines."""
+        """Yield the rows below the titles, and those above that say something, with their
+        lines."""
         for rows in self.sheet.read():
             for line, row in zip(*rows):
-                if line > self.matrix.line and not is_blank(row):
+                is_in = line > self.matrix.line or line in self.matrix.above
+                if is_in and not is_blank(row):
                     yield line, row
 
+    def _name(self, row: Sequence[str]) -> str:
+        return row[self.matrix.corner] if self.matrix.corner < len(row) else ""
+
+    def _take_above(self, sample: Rows, at: int) -> None:
+        """Take what stands above the titles: units, and rows that say something of places."""
+        left = []
+        for line, row in zip(sample.lines[:at], sample.cells[:at]):
+            if has_units(row) and line == self.matrix.line - 1:
+                self._take_units(line, row)
+            elif not self.matrix.take_above(line, row):
+                left.append(row)
+        if at:
+            self.notes.append(told_above(self.matrix.line, left))
+
     def _refuse_same_titles(self) -> None:
-        titles = [title for title in self.matrix.titles[1:] if title]
+        titles = [self.matrix.titles[place] for place in self.matrix.places()]
         if twice := next((title for title in titles if titles.count(title) > 1), ""):
             raise TableFault(f"two columns have the title {quoted_name(twice)}", self.matrix.line)
 
@@ -140,10 +172,10 @@ class _MatrixReader:
         total = _Sum()
         for place, cell in enumerate(row):
             of_column = self.matrix.columns.get(place, "")
-            if not place or is_missing(cell) or kind and of_column:
+            if place == self.matrix.corner or is_missing(cell) or kind and of_column:
                 continue
             if kind or of_column in PLACE_COLUMNS:
-                of = self.matrix.title(place) if kind else row[0]
+                of = self.matrix.title(place) if kind else self._name(row)
                 self._say(_SaidCell(line, of, kind or of_column, cell), place)
             elif not of_column and self._is_number(line, place, cell) and self.has_totals:
                 found = read_cell(cell)[0]
@@ -192,13 +224,16 @@ class _MatrixReader:
             wrong = [
                 f"{cleaned(cell)} below {self._title(place)} and the other cells {self.sums[place]}"
                 for place, cell in enumerate(row[: len(self.sums)])
-                if place and place not in self.matrix.columns and not is_missing(cell)
+                if place != self.matrix.corner and place not in self.matrix.columns
+                if not is_missing(cell)
                 if not self.sums[place].is_told_by(cell)
             ]
             self.notes.append(told + (f", though it says {wrong[0]}" if wrong else ""))
         matrix = self.matrix
         if left_out := matrix.told_rows(LEFT_OUT) + matrix.told_columns(LEFT_OUT):
             self.notes.append(f"left out, as asked: {', '.join(left_out)}")
+        if counted := matrix.told_columns(COUNTED):
+            self.notes.append(f"numbers of the rows are left out: {counted[0]}")
         if again := [str(line) for line, it in matrix.rows.items() if it == TITLES_AGAIN]:
             told = "the titles stand once more, and are passed over"
             self.notes.append(f"{told}: line {', '.join(again)}")
@@ -211,11 +246,9 @@ class _MatrixReader:
 
     def _taken(self) -> str:
         matrix = self.matrix
-        corner = quoted_name(matrix.titles[0]) if matrix.titles[0] else "column 1"
-        count = sum(
-            bool(title) and place not in matrix.columns
-            for place, title in enumerate(matrix.titles[1:], 1)
-        )
+        title = matrix.titles[matrix.corner]
+        corner = quoted_name(title) if title else f"column {matrix.corner + 1}"
+        count = sum(place not in matrix.columns for place in matrix.places())
         said = "".join(
             f", {noun} from {' and '.join(found)}"
             for kind, noun in _NOUNS.items()
@@ -242,10 +275,10 @@ class _MatrixReader:
 
     def _arcs(self, row: Sequence[str]) -> Iterator[list[str]]:
         for place, cell in enumerate(row):
-            if place and place not in self.matrix.columns:
+            if place != self.matrix.corner and place not in self.matrix.columns:
                 if not is_missing(cell) and not _is_zero(cell):
                     amount = cell if isinstance(cell, Exact) else cell.strip()
-                    yield [row[0], self.matrix.title(place), amount]
+                    yield [self._name(row), self.matrix.title(place), amount]
 
     def _place_rows(self) -> Iterator[Rows]:
         titles = [self._titled(kind, self._unit(kind)) for kind in PLACE_COLUMNS]
@@ -253,7 +286,8 @@ class _MatrixReader:
             [it.place, *(it.cell if it.kind == kind else "" for kind in PLACE_COLUMNS)]
             for it in self.said
         ]
-        lines = [self.matrix.line, *(it.line for it in self.said)]
+        # These titles stand in no line, and rows may stand above those of the matrix.
+        lines = [0, *(it.line for it in self.said)]
         yield Rows(lines, [[PLACE, *titles], *rows])
 
     def _unit(self, kind: str = "") -> str:

@@ -19,17 +19,20 @@ def _words(text: str) -> frozenset[str]:
 _CAN = _words("x yes y ja j oui o si sí true wahr vrai 1 ✓ ✔ ✗ ×")
 _CANNOT = _words("- – — no n nein non false falsch faux 0 .")
 # The first cell of a row of needs has one of the first words, and none but these.
-_NEEDS = _words(
+NEEDS = _words(
     "need needs needed required requirement requirements demand bedarf benotigt benotigte "
-    "personalbedarf sollbesetzung besoin besoins requis requise requises necessaire necessaires "
-    "necesario necesarios necesaria necesarias necesidad necesidades requerido requeridos"
+    "erforderlich erforderliche personalbedarf sollbesetzung besoin besoins requis requise "
+    "requises necessaire necessaires necesario necesarios necesaria necesarias necesidad "
+    "necesidades requerido requeridos"
 )
-_OF_PEOPLE = _words(
+OF_PEOPLE = _words(
     "people persons staff nurses workers headcount personen personal leute mitarbeiter "
-    "pflegekrafte personnes personnel effectif infirmieres personas enfermeras of the de la du "
-    "an pro per par por shift schicht poste turno total"
+    "pflegekrafte personnes personnel effectif infirmieres personas enfermeras"
 )
-_HOURS = _words("hours hour hrs h stunden std heures heure horas hora")
+_BESIDE_NEEDS = OF_PEOPLE | _words(
+    "of the de la du an pro per par por shift schicht poste turno total"
+)
+HOURS = _words("hours hour hrs h stunden std heures heure horas hora")
 _SHIFTS = _words("shifts schichten dienste postes gardes turnos guardias")
 _BESIDE_LIMITS = _words(
     "max maximum maximal maximale maximo maximos maxima maximas most contract contracted weekly "
@@ -65,13 +68,13 @@ def is_cross(cell: str) -> bool:
 def names_needs(cell: str) -> bool:
     """Return True if a cell names the row that says how many people shifts need."""
     words = set(folded(cell).split())
-    return bool(words & _NEEDS) and _NEEDS | _OF_PEOPLE >= words
+    return bool(words & NEEDS) and NEEDS | _BESIDE_NEEDS >= words
 
 
 def is_limit(title: Title) -> bool:
     """Return True if a title is that of what people may work."""
     words = set(title.words) | set(folded(title.unit).split())
-    counts = _HOURS | _SHIFTS
+    counts = HOURS | _SHIFTS
     return bool(words & counts) and counts | _BESIDE_LIMITS >= words
 
 
@@ -93,7 +96,7 @@ def unit_of_limits(title: Title) -> str:
     """Return what the cells below a title count: the word for it, or the title."""
     if title.unit:
         return title.unit
-    known = (word for word in title.text.split() if folded(word) in _HOURS | _SHIFTS)
+    known = (word for word in title.text.split() if folded(word) in HOURS | _SHIFTS)
     return next(known, title.text)
 
 

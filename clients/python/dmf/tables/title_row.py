@@ -51,7 +51,7 @@ def heading_at(sample: Rows, at: int) -> TitleRow:
                 _joined(above[place], cell) if place < len(above) else cell
                 for place, cell in enumerate(cells)
             ]
-        notes.append(told_above(sample, at))
+        notes.append(told_above(sample.lines[at], sample.cells[:at]))
     titles = list(map(title_of, cells))
     rows = sample.cells[at + 1 :]
     begin = line + 1
@@ -65,13 +65,14 @@ def heading_at(sample: Rows, at: int) -> TitleRow:
     return TitleRow(tuple(titles), line, begin, rows, sample.cells[at], tuple(notes))
 
 
-def told_above(sample: Rows, at: int) -> str:
-    """Return the line that tells what stands above the titles."""
-    texts = [next(cleaned(cell) for cell in row if cell.strip()) for row in sample.cells[:at]]
+def told_above(line: int, rows: Sequence[Sequence[str]]) -> str:
+    """Return the line that tells in which line the titles are, and what stands above and is left
+    out."""
+    texts = [next(cleaned(cell) for cell in row if cell.strip()) for row in rows]
     shown = ", ".join(quoted_name(text[:LONGEST_LEFT]) for text in texts[:MOST_LEFT])
-    rest = ", .." if at > MOST_LEFT else ""
-    line = sample.lines[at]
-    return f"the titles are in line {line}; what stands above is left out: {shown}{rest}"
+    rest = ", .." if len(rows) > MOST_LEFT else ""
+    left = f"; what stands above is left out: {shown}{rest}" if rows else ""
+    return f"the titles are in line {line}{left}"
 
 
 def _joined(above: str, cell: str) -> str:
