@@ -1,5 +1,5 @@
-"""Rows and columns of a matrix that are likely no places by their cells: all are texts, or each is
-the sum, the mean, the least or the greatest of the others beside it."""
+"""Rows and columns of a matrix that are likely no places by their cells: each is the sum, the mean,
+the least or the greatest of the others beside it, or all of a column are texts."""
 
 from __future__ import annotations
 
@@ -30,28 +30,30 @@ class Shapes:
     def of_column(self, at: int) -> str:
         """Return what the cells of a column are: texts, or what of the others in their rows; empty
         if they may be capacities."""
-        return _shape([row[at] for row in self.rows], self._by_row, at)
+        cells = [row[at] for row in self.rows]
+        return TEXTS if _are_texts(cells) else _statistic(self._by_row, at)
 
     def of_row(self, at: int) -> str:
-        """Return what the cells of a row are: texts, or what of the others in their columns; empty
-        if they may be capacities."""
-        return _shape(self.rows[at], self._by_column, at)
+        """Return what the cells of a row are of the others in their columns; empty if they may be
+        capacities."""
+        return _statistic(self._by_column, at)
 
 
 _Numbers = Sequence[Optional[Decimal]]
 
 
-def _shape(cells: Sequence[str], readings: Sequence[Sequence[_Numbers]], at: int) -> str:
+def _are_texts(cells: Sequence[str]) -> bool:
     filled = [cell for cell in cells if not is_missing(cell)]
-    if not any(read_cell(cell)[0] or is_limitless(cell) for cell in filled):
-        return TEXTS if len(filled) >= LEAST else ""
-    found = (
-        name
-        for lines in readings
-        for name, is_it in _STATISTICS.items()
-        if _is_each(is_it, lines, at)
-    )
-    return next(found, "")
+    return len(filled) >= LEAST and not any(read_cell(it)[0] or is_limitless(it) for it in filled)
+
+
+def _statistic(readings: Sequence[Sequence[_Numbers]], at: int) -> str:
+    """Return what each number at this place is of the others in its line; empty if it is none."""
+    for lines in readings:
+        for name, is_it in _STATISTICS.items():
+            if _is_each(is_it, lines, at):
+                return name
+    return ""
 
 
 _Statistic = Callable[[Decimal, Sequence[Decimal], int], bool]
