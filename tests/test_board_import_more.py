@@ -159,7 +159,9 @@ def test_map_contents(tmp_path: Path) -> None:
             ("POINT", 1, "not a line"),
             ("LINESTRING", 1, "each is a row"),
         ]
-        assert "is a POINT, not a line" in view["faults"][0]["text"]
+        fault = view["faults"][0]
+        assert "is a POINT, not a line" in fault["text"]
+        assert fault["text"].startswith("feature 1: ") and view["preview"]["lines"][1] == 2
 
 
 def test_parts(tmp_path: Path) -> None:

@@ -211,6 +211,37 @@ def test_faults_of_geojson(tmp_path: Path, old: str, new: str, said: str) -> Non
     assert str(caught.value).removeprefix(str(path)).startswith(said), caught.value
 
 
+@pytest.mark.parametrize(("old", "new", "said"), GEOJSON_FAULTS)
+def test_faults_of_geojson_in_one_line(tmp_path: Path, old: str, new: str, said: str) -> None:
+    """A reader of the file finds the feature by its number and its name."""
+    path = geojson(tmp_path / "t.geojson")
+    path.write_text(path.read_text().replace(old, new).replace("\n", ""))
+    with pytest.raises(dmf.TableFault) as caught:
+        dmf.read_table(path)
+    told = str(caught.value).removeprefix(str(path))
+    if "damaged" in said:
+        # The text ends where the list of the features does, of which the braces are not closed.
+        assert told.startswith(", feature 2: the JSON is damaged: ")
+        return
+    assert told == f", feature 2 'P2'{said.removeprefix(', line 4')}"
+
+
+def test_features_that_share_a_line(tmp_path: Path) -> None:
+    """If some do, all are told by their numbers; also in what is told beside the answer."""
+    path = geojson(tmp_path / "t.geojson")
+    text = path.read_text()
+    head, features = text.split('"features": [\n')
+    first = features.split(",\n")[0]
+    path.write_text(f'{head}"features": [{first}, {features}')
+    with dmf.read_table(path, source="0,0", sink="10,10") as network:
+        assert any("feature 2 'P1' as feature 1 'P1'" in it for it in network.notes)
+    path.write_text(path.read_text().replace('"Q max (l/s)": 30', '"Q max (l/s)": null'))
+    with pytest.raises(dmf.TableFault, match="geojson, feature 3 'P2', column 'Q max"):
+        dmf.read_table(path)
+    with dmf.read_table(path, source="0,0", sink="10,10", missing=0) as network:
+        assert "missing capacities are read as 0: feature 3 'P2'" in network.notes
+
+
 def test_geojson_that_is_cut(tmp_path: Path) -> None:
     path = geojson(tmp_path / "t.geojson")
     text = path.read_text()

@@ -4,7 +4,7 @@ class of its own."""
 from __future__ import annotations
 
 import re
-from collections.abc import Sequence
+from collections.abc import Mapping, Sequence
 from typing import Any, ClassVar
 
 
@@ -220,7 +220,8 @@ class TableFault(Error, ValueError):
     """Why a table is refused: the reason, the line and the column, counted from 1, and the path of
     its file, as far as they are known; and the `others` that were found with it, of which `untold`
     more are not kept. `more_lines` have the same fault, and `column_name` is what the column is
-    called, as `'Q max'`. If one value of an option settles it, that is the `option`, and `answers`
+    called, as `'Q max'`. `row_names` are what rows are called that do not have a line of their own,
+    by their lines. If one value of an option settles it, that is the `option`, and `answers`
     are the values that it may have, each with what that means."""
 
     def __init__(self, reason: str, line: int = 0, path: str = "", column: int = 0) -> None:
@@ -233,6 +234,7 @@ class TableFault(Error, ValueError):
         self.untold = 0
         self.more_lines: Sequence[int] = ()
         self.column_name = ""
+        self.row_names: Mapping[int, str] = {}
         self.option = ""
         self.answers: Sequence[tuple[str, str]] = ()
 
@@ -241,17 +243,23 @@ class TableFault(Error, ValueError):
 
     def told(self) -> str:
         """Return this fault alone, in one line."""
-        column = f"column {self.column_name or self.column}" if self.column and self.line else ""
-        place = ", ".join(part for part in (self.path, self._told_lines(), column) if part)
+        place = ", ".join(filter(None, [self.path, self.told_cell()]))
         return f"{place}: {self.reason}" if place else self.reason
 
+    def told_cell(self) -> str:
+        """Return the line and the column in words, as far as they are known."""
+        column = f"column {self.column_name or self.column}" if self.column and self.line else ""
+        return ", ".join(filter(None, [self._told_lines(), column]))
+
     def _told_lines(self) -> str:
+        names = self.row_names
         if not self.more_lines:
-            return f"line {self.line}" if self.line else ""
-        shown = [str(line) for line in (self.line, *self.more_lines[:MOST_LINES])]
+            return names.get(self.line) or (f"line {self.line}" if self.line else "")
+        lines = (self.line, *self.more_lines[:MOST_LINES])
+        shown = [names.get(line) or str(line) for line in lines]
         rest = len(self.more_lines) - MOST_LINES
         last = f"{rest} more" if rest > 0 else shown.pop()
-        return f"lines {', '.join(shown)} and {last}"
+        return f"{'' if names else 'lines '}{', '.join(shown)} and {last}"
 
     def lines(self) -> list[str]:
         """Return a line for this fault, for each other one, and for those that are only counted."""

@@ -30,7 +30,7 @@ from ..text.lexical import AMOUNTS
 from ..text.spelling import quoted_name
 from .amount_cells import is_limitless, is_missing, no_number, read_cell
 from .plain_numbers import Plain, over_power, plain_of, zeros_of
-from .sheet import Exact, Faults
+from .sheet import Exact, Faults, called_row
 
 OTHER = {POINT: COMMA, COMMA: POINT}
 NAMES = {POINT: "point", COMMA: "comma"}
@@ -246,7 +246,7 @@ class Amounts:
         wanted = of_title or next(iter(named), self.unit)
         for unit, place in named.items():
             if _folded(unit) != _folded(wanted):
-                where = "the title" if of_title else f"line {self.lines[named[wanted]]}"
+                where = "the title" if of_title else self._called(named[wanted], faults)
                 faults.add(
                     f"a {self.what} has the unit {quoted_name(unit)}, and {where} has "
                     f"{quoted_name(wanted)}",
@@ -255,11 +255,14 @@ class Amounts:
                 )
         if named and "" in units and not of_title:
             told = (
-                f"a {self.what} has no unit, and line {self.lines[named[wanted]]} has "
+                f"a {self.what} has no unit, and {self._called(named[wanted], faults)} has "
                 f"{quoted_name(wanted)}"
             )
             faults.add(told, self.lines[units[""]], self.column)
         self.unit = wanted
+
+    def _called(self, place: int, faults: Faults) -> str:
+        return called_row(self.lines[place], faults.row_names)
 
     def _read_piece(self, piece: _CellPiece, faults: Faults) -> Plain:
         """Return the numbers of a piece with the sign that was settled. If that is another one, or

@@ -319,7 +319,7 @@ class _ArcReader(Reader):
         self._judge_asides()
         self._read_missing()
         table.states = self.states.settled(table.lines, self.faults)
-        table.notes += told_states(table.states, self.layout, table.lines)
+        table.notes += told_states(table.states, self.layout, table.lines, table.sheet.row_names)
         table.amounts.put(closed_rows(table.states), 0)
         if self.faults.count:
             # What is wrong with the places among the rows is told with it.
@@ -353,8 +353,8 @@ class _ArcReader(Reader):
             self._put_unlimited(missing, "missing capacities")
         else:
             amounts.put(missing, 0)
-            told = f"missing capacities are read as 0: {told_lines([first, *more])}"
-            self.table.notes.append(told)
+            told = told_lines([first, *more], self.table.sheet.row_names)
+            self.table.notes.append(f"missing capacities are read as 0: {told}")
 
     def _put_unlimited(self, places: Iterable[int], what: str) -> None:
         """Give the capacities at these places more than all others have together."""
@@ -364,9 +364,10 @@ class _ArcReader(Reader):
         amounts.put(rows, min(10 ** (len(str(sum(others))) + 1), LARGEST))
         self.table.unlimited = sorted({*unlimited, *rows})
         shown = plain_text(amounts.quantity(rows[0]))
+        lines = [self.table.lines[at] for at in rows]
         self.table.notes.append(
             f"{what} are read as {shown}, which is more than all others together: "
-            f"{told_lines([self.table.lines[at] for at in rows])}"
+            f"{told_lines(lines, self.table.sheet.row_names)}"
         )
 
 

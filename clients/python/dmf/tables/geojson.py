@@ -4,18 +4,21 @@ from __future__ import annotations
 
 import json
 import re
-from collections.abc import Iterator, Sequence
+from collections.abc import Iterator, Mapping, Sequence
 from decimal import Decimal
 from functools import partial
+from itertools import count
 from typing import Any, NamedTuple
 
 from ..errors import TableFault
-from ..text.spelling import quoted_name
+from ..text.spelling import cleaned, quoted_name
 from .line_ends import WKT_TITLE, wkt_of
 from .other_kinds import markup_of
 from .sheet import Positions, Rows, Sheet, text_cell
 from .table_file import TableFile
 from .text_bytes import text_of
+from .title_row import LONGEST_LEFT
+from .titles import NAME, USUAL, folded
 from .workbook import cell_text
 
 _FEATURES = re.compile(r'"features"\s*:\s*\[')
@@ -25,11 +28,19 @@ LONGEST_DIGITS = 60
 
 
 class Feature(NamedTuple):
-    """A feature: the line of the file in which it begins, its properties and its geometry."""
+    """A feature: its number, the line of the file in which it begins, whether it is the first one
+    there, its properties and its geometry, and what messages call it."""
 
+    number: int
     line: int
+    has_line: bool
     properties: dict[str, Any]
     geometry: dict[str, Any]
+    name: str
+
+    def fault(self, reason: str) -> TableFault:
+        """Return a fault of this feature."""
+        return _fault(reason, self.line, "" if self.has_line else self.name)
 
 
 def is_one(file: TableFile) -> bool:
@@ -44,26 +55,32 @@ def sheets_of(file: TableFile) -> list[Sheet]:
     if not features:
         raise TableFault("the file has no feature")
     titles = list(dict.fromkeys(key for feature in features for key in feature.properties))
+    # The titles are taken for the first line, so that no feature stands there. Where some features
+    # share a line, all are counted, and are told by their numbers.
     rows = [(1, [*titles, WKT_TITLE])]
+    is_counted = not all(feature.has_line for feature in features)
+    names = {feature.number + 1: feature.name for feature in features} if is_counted else {}
     is_raw = file.reading.raw_names
     for feature in features:
         cells = [_cell(feature.properties.get(title), is_raw=is_raw) for title in titles]
-        rows.append((feature.line, [*cells, _wkt(feature)]))
+        line = feature.number + 1 if is_counted else feature.line
+        rows.append((line, [*cells, _wkt(feature)]))
     # Without a member that names another system, coordinates are degrees.
     is_globe = '"crs"' not in text[: _FEATURES.search(text).start()]  # type: ignore[union-attr]
     read = partial(_read, rows)
-    return [Sheet(file.path, read, tuple(notes), positions=Positions({}, is_globe))]
+    places = Positions({}, is_globe)
+    return [Sheet(file.path, read, tuple(notes), positions=places, row_names=names)]
 
 
 def _features(text: str) -> Iterator[Feature]:
-    """Yield the features of a collection. Raises a `TableFault` with the line of what is wrong."""
+    """Yield the features of a collection. Raises a `TableFault` with the line of what is wrong, and
+    with the feature if it shares its line."""
     begin = _FEATURES.search(text)
     if begin is None:
         raise TableFault("a collection of features is expected, and the file has none")
     decoder = json.JSONDecoder(parse_float=Decimal)
-    # The titles are taken for the first line, so that no feature stands there.
-    at, line, counted = begin.end(), 1, 0
-    while True:
+    at, line, counted, last = begin.end(), 1, 0, 1
+    for number in count(1):
         at = _BLANK.match(text, at).end()  # type: ignore[union-attr]
         line, counted = line + text.count("\n", counted, at), at
         if text[at : at + 1] == "]":
@@ -74,17 +91,39 @@ def _features(text: str) -> Iterator[Feature]:
             where = error.lineno if isinstance(error, json.JSONDecodeError) else line
             is_end = not text[getattr(error, "pos", 0) :].strip() or at >= len(text)
             why = "it ends in the middle of a feature" if is_end else str(error).partition(":")[0]
-            raise TableFault(f"the JSON is damaged: {why}", where) from None
-        yield _feature(feature, max(line, 2))
+            name = f"feature {number}" if line == last and text[at:].strip() else ""
+            if name and isinstance(error, json.JSONDecodeError):
+                why += f", at character {error.colno} of line {where}"
+            raise _fault(f"the JSON is damaged: {why}", where, name) from None
+        yield _feature(feature, number, line, line > last)
+        last = line
 
 
-def _feature(found: Any, line: int) -> Feature:
+def _feature(found: Any, number: int, line: int, has_line: bool) -> Feature:
+    name = "" if has_line else f"feature {number}"
     if not isinstance(found, dict) or found.get("type") != "Feature":
-        raise TableFault("a feature is expected", line)
+        raise _fault("a feature is expected", line, name)
     properties, geometry = found.get("properties") or {}, found.get("geometry") or {}
     if not isinstance(properties, dict) or not isinstance(geometry, dict):
-        raise TableFault("the properties or the geometry of the feature are not an object", line)
-    return Feature(line, properties, geometry)
+        reason = "the properties or the geometry of the feature are not an object"
+        raise _fault(reason, line, name)
+    return Feature(number, line, has_line, properties, geometry, _name(number, found, properties))
+
+
+def _fault(reason: str, line: int, name: str) -> TableFault:
+    """Return a fault in a line, which is told by a name if there is one."""
+    fault = TableFault(reason, line)
+    fault.row_names = {line: name} if name else {}
+    return fault
+
+
+def _name(number: int, found: Mapping[str, Any], properties: Mapping[str, Any]) -> str:
+    """Return what messages call a feature: its number, and its name or its own number if it has
+    one."""
+    names = [properties[key] for word in USUAL[NAME] for key in properties if folded(key) == word]
+    texts = [str(it) for it in (*names, found.get("id")) if isinstance(it, (str, int))]
+    own = next(filter(None, map(cleaned, texts)), "")
+    return f"feature {number} {quoted_name(own[:LONGEST_LEFT])}" if own else f"feature {number}"
 
 
 def _cell(value: Any, *, is_raw: bool) -> str:
@@ -105,10 +144,8 @@ def _wkt(feature: Feature) -> str:
     try:
         return wkt_of([[_point(point) for point in part] for part in parts])
     except (TypeError, ValueError, IndexError):
-        raise TableFault(
-            f"the coordinates of the {quoted_name(str(kind))} are not pairs of numbers",
-            feature.line,
-        ) from None
+        reason = f"the coordinates of the {quoted_name(str(kind))} are not pairs of numbers"
+        raise feature.fault(reason) from None
 
 
 def _point(point: Any) -> Sequence[str]:

@@ -88,11 +88,10 @@ def lines_of(sheet: Sheet, reading: ReadOptions) -> Sheet:
         if reading.tolerance:
             raise TableFault("--tolerance is for lines on a map, and this has none: leave it out")
         return sheet
-    faults = Faults(sheet.path, found.titles)
+    faults = Faults(sheet.path, found.titles, sheet.row_names)
     rows = list(_lines(sheet, found, faults))
     faults.judge()
     places = _Places(reading.tolerance)
-    # Several rows may stand in one line of a file of GeoJSON.
     ends = [[places.add(end) for end in both] for both in rows]
     named_places = places.names()
     cells = [

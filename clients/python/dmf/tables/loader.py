@@ -155,7 +155,8 @@ def plan_of_sheet(
     for option in "node_limits", "place_table":
         if option in wanted.tables:
             _add_file(plan, wanted, option)
-    faults = Faults(table.path, [title.text for title in table.layout.titles])
+    titles = [title.text for title in table.layout.titles]
+    faults = Faults(table.path, titles, table.sheet.row_names)
     plan.terms += terms_of(table.said, table.layout, faults, wanted.reading.sign, table.amounts)
     faults.judge()
     for other in others:
@@ -195,8 +196,7 @@ def _add_beside(plan: NetworkTables, sheet: Sheet, wanted: TableOptions) -> None
     """Add what a sheet of places in the file of the arcs says. If it gives way, it says nothing of
     what options name; else it counts only if they name no table of places."""
     if sheet.gives_way:
-        before, named = len(plan.terms), wanted.kinds_named
-        headings = len(plan.headings)
+        before, headings, named = len(plan.terms), len(plan.headings), wanted.kinds_named
         _add_places(plan, sheet, PLACE_COLUMNS, wanted)
         # Nobody wrote these titles.
         del plan.headings[headings:]

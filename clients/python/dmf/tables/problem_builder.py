@@ -273,7 +273,8 @@ class _Maker:
     def add_rows(self) -> None:
         """Add the arcs of the rows."""
         table = self.plan.arcs
-        faults = Faults(table.path, [title.text for title in table.layout.titles])
+        titles = [title.text for title in table.layout.titles]
+        faults = Faults(table.path, titles, table.sheet.row_names)
         wholes = table.amounts.wholes(self.measure, faults)
         faults.judge()
         tails: Sequence[int] = table.tails

@@ -18,7 +18,7 @@ from ..text.spelling import cleaned, quoted_name
 from .amount_columns import Amounts
 from .column_finder import layout_of
 from .headings import Form, Layout, unit_of
-from .sheet import SAMPLE, Faults, Rows, Sheet, is_blank, name_in
+from .sheet import SAMPLE, Faults, Rows, Sheet, called_row, is_blank, name_in
 from .table_file import ReadOptions
 
 # The most characters of a cell. A longer one mostly has a quote that is not closed.
@@ -177,7 +177,13 @@ class Table:
         self.lines.extend(lines)
 
     def fault(self, reason: str, line: int = 0) -> TableFault:
-        return TableFault(reason, line, self.path)
+        fault = TableFault(reason, line, self.path)
+        fault.row_names = self.sheet.row_names
+        return fault
+
+    def called_row(self, row: int) -> str:
+        """Return what messages call a row."""
+        return called_row(self.lines[row], self.sheet.row_names)
 
 
 class CrossTables(NamedTuple):
@@ -201,7 +207,8 @@ class Reader:
         self.form = form
         self.layout = layout
         self.reading = reading
-        self.faults = Faults(sheet.path, [title.text for title in layout.titles])
+        titles = [title.text for title in layout.titles]
+        self.faults = Faults(sheet.path, titles, sheet.row_names)
         self.width = len(layout.titles) if layout.line else None
         self.heading = [title.text for title in layout.titles]
 

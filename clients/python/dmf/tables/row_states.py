@@ -65,7 +65,10 @@ def _why_not(cell: str, role: str, title: Title) -> str:
 
 
 def told_states(
-    states: Mapping[str, Sequence[str]], layout: Layout, lines: Sequence[int]
+    states: Mapping[str, Sequence[str]],
+    layout: Layout,
+    lines: Sequence[int],
+    row_names: Mapping[int, str],
 ) -> Iterator[str]:
     """Yield what the columns of states changed, with the lines."""
     for role, found in states.items():
@@ -77,15 +80,17 @@ def told_states(
         ):
             of = [line for line, it in zip(lines, found) if it == state]
             if of:
-                yield f"rows are {said}, as {title} says: {told_lines(of)}"
+                yield f"rows are {said}, as {title} says: {told_lines(of, row_names)}"
 
 
-def told_lines(lines: Sequence[int]) -> str:
-    """Return lines as messages name them: `line 3`, `lines 3 and 4`, `lines 3, 4 and 17 more`."""
-    shown = list(map(str, lines[:MOST_TOLD]))
+def told_lines(lines: Sequence[int], row_names: Mapping[int, str]) -> str:
+    """Return lines as messages name them: `line 3`, `lines 3 and 4`, `lines 3, 4 and 17 more`; or
+    the names of their rows."""
+    shown = [row_names.get(line) or str(line) for line in lines[:MOST_TOLD]]
     rest = len(lines) - len(shown)
     last = f"{rest} more" if rest else shown.pop() if len(shown) > 1 else ""
-    return f"line{'s' * (len(lines) > 1)} {', '.join(shown)}" + (f" and {last}" if last else "")
+    word = "" if row_names else f"line{'s' * (len(lines) > 1)} "
+    return f"{word}{', '.join(shown)}" + (f" and {last}" if last else "")
 
 
 def closed_rows(states: Mapping[str, Sequence[str]]) -> list[int]:

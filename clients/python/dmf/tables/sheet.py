@@ -19,7 +19,7 @@ import csv
 import re
 from array import array
 from collections.abc import Callable, Iterable, Iterator, Mapping, Sequence
-from dataclasses import dataclass
+from dataclasses import dataclass, field
 from decimal import Context
 from functools import cached_property
 from itertools import zip_longest
@@ -34,12 +34,25 @@ from ..text.spelling import quoted_name
 MOST_FAULTS = 5
 
 
-class Faults:
-    """The faults found so far in a table whose columns have these titles."""
+# What rows are called that each have a line of their own: as their lines are.
+NO_NAMES: Mapping[int, str] = {}
 
-    def __init__(self, path: str, titles: Sequence[str] = ()) -> None:
+
+def called_row(line: int, row_names: Mapping[int, str]) -> str:
+    """Return what messages call a row."""
+    return row_names.get(line) or f"line {line}"
+
+
+class Faults:
+    """The faults found so far in a table whose columns have these titles, and whose rows have these
+    names beside their lines, if any."""
+
+    def __init__(
+        self, path: str, titles: Sequence[str] = (), row_names: Mapping[int, str] = NO_NAMES
+    ) -> None:
         self.path = path
         self.titles = titles
+        self.row_names = row_names
         self.count = 0
         self._first: list[TableFault] = []
 
@@ -50,6 +63,7 @@ class Faults:
         title = self.titles[column - 1] if 0 < column <= len(self.titles) else ""
         fault.column_name = quoted_name(title) if title else ""
         fault.more_lines = more_lines
+        fault.row_names = self.row_names
         self._first.append(fault)
         if len(self._first) > 2 * MOST_FAULTS:
             self._sort()
@@ -284,7 +298,8 @@ class Sheet:
     one, `notes` say what was taken for granted, and `taken` says what was taken for what, if its
     titles do not say it. `positions` are those of its places, if it has them. What a table of
     places that `gives_way` says of supplies counts only if no option names a source, and so with
-    demands."""
+    demands. `row_names` are what rows are called that do not have a line of their own, by the
+    numbers that stand for their lines."""
 
     path: str
     read: Callable[[], Iterator[Rows]]
@@ -292,6 +307,7 @@ class Sheet:
     taken: str = ""
     positions: Optional[Positions] = None
     gives_way: bool = False
+    row_names: Mapping[int, str] = field(default_factory=dict)
 
     @property
     def name(self) -> str:

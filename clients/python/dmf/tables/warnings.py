@@ -16,6 +16,7 @@ from ..session.base import numpy_for
 from ..text.spelling import MOST_TOLD, cleaned, near, quoted_name
 from .headings import ARCS
 from .problem_builder import BuiltProblem, NetworkTables, ends_alone
+from .sheet import called_row
 from .titles import DEMAND, SUPPLY
 
 # Among how many places a near name is looked for, and among how many arcs a way.
@@ -92,7 +93,7 @@ def _lone_first_row(plan: NetworkTables) -> Iterator[str]:
         end in first for ends in (table.tails, table.heads) for end in islice(ends, 1, None)
     ):
         yield (
-            f"line {table.lines[0]} is taken for an arc, though no other row has its "
+            f"{table.called_row(0)} is taken for an arc, though no other row has its "
             f"ends{ARCS.hint}"
         )
 
@@ -143,7 +144,9 @@ def _same_rows(plan: NetworkTables) -> Iterator[str]:
         )
         line = table.lines[place]
         if first.setdefault(row, line) != line:
-            same.append(f"line {line} as {first[row]}")
+            names = table.sheet.row_names
+            other = names.get(first[row]) or first[row]
+            same.append(f"{called_row(line, names)} as {other}")
     if same:
         yield f"rows are the same, and each counts: {_listed(same)}"
 
@@ -220,7 +223,7 @@ class _LonelyPlaces(Sequence[str]):
 
     def told(self, number: int) -> str:
         name = self.names[number - 1]
-        line = f" (line {self.table.lines[_first_place(self.ends, number)]})"
+        line = f" ({self.table.called_row(_first_place(self.ends, number))})"
         if (
             len(self.names) > MOST_PLACES
             or self.table.tails.count(number) + self.table.heads.count(number) > 1

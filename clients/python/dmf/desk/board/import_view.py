@@ -199,11 +199,14 @@ def _cell_fault_view(fault: TableFault, path: str) -> Json:
     """Return a fault with its cell. The text has the place only if it is in another file."""
     if split_path(fault.path)[0] != split_path(path)[0]:
         return _fault_view(fault.told())
-    lines = [str(line) for line in fault.more_lines[:MOST_LINES]]
+    names = fault.row_names
+    lines = [names.get(line) or str(line) for line in fault.more_lines[:MOST_LINES]]
     if len(fault.more_lines) > MOST_LINES:
         lines.append("..")
-    more = f" (also in line{'s' * (len(lines) > 1)} {', '.join(lines)})" if lines else ""
-    return _fault_view(fault.reason + more, fault.line, fault.column if fault.line else 0)
+    word = "" if names else f"line{'s' * (len(lines) > 1)} "
+    more = f" (also in {word}{', '.join(lines)})" if lines else ""
+    name = f"{names[fault.line]}: " if fault.line in names else ""
+    return _fault_view(name + fault.reason + more, fault.line, fault.column if fault.line else 0)
 
 
 def ends_view(reading: Reading) -> Json:

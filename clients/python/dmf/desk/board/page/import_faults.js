@@ -12,7 +12,7 @@ import { grouped, sentence } from "./words.js";
  * @param {View} view
  */
 export function placed({ text, line, column }, { columns }) {
-  if (!line || /^lines? [0-9]/.test(text)) return text;
+  if (!line || /^(lines?|feature) [0-9]/.test(text)) return text;
   const title = column && (columns.find((it) => it.at === column - 1)?.title || String(column));
   return `line ${line}${title ? `, column '${title}'` : ""}: ${text}`;
 }
