@@ -192,6 +192,19 @@ def test_lists() -> None:
     ]
 
 
+@pytest.mark.parametrize("listed", ["pipes", "flow", "from A", "places"])
+def test_no_flow_yet(tmp_path: Path, listed: str) -> None:
+    """Before the first solve, and once it is undone, a list says why nothing flows. Where 0 is the
+    greatest value, nothing needs saying."""
+    (tmp_path / "t.csv").write_text("from,to,capacity\nA,B,5\nB,C,4\n")
+    script = f"{listed}\nsolve\n{listed}\nundo\n{listed}\nshut B\n{listed}\nsolve\n{listed}\n"
+    lines = run("dmf-plan", f"{tmp_path}/t.csv", typed=script).stdout.splitlines()
+    values = [at for at, it in enumerate(lines) if it.startswith("value ")]
+    told = [at for at, it in enumerate(lines) if it.startswith("there is no flow yet: `solve`")]
+    # Of the four values, none stands before the first list, and two before the second.
+    assert [sum(value < at for value in values) for at in told] == [0, 2] and len(values) == 4
+
+
 def test_many() -> None:
     """All arcs of which something is so are changed in one step, which is undone as one."""
     rises = [pipe.name for pipe in water() if "rise" in pipe.name]

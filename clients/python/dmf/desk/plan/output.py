@@ -36,7 +36,7 @@ class TextOutput(Output):
         self.tell(*_limit_lines(desk))
 
     def flows(self, desk: Desk, numbers: list[int], *, with_limit: bool) -> None:
-        self.tell(*arc_lines(desk, numbers, with_limit=with_limit))
+        self.tell(*arc_lines(desk, numbers, with_limit=with_limit), *_no_flow(desk))
 
     def places(self, desk: Desk) -> None:
         self.tell(*place_lines(desk))
@@ -164,7 +164,14 @@ def place_lines(desk: Desk) -> list[str]:
         return f"  {network.names.node(node)}: {', '.join([*amounts, *said])}"
 
     lines = [*map(told, network.folding.places(range(1, network.names.node_count + 1)))]
-    return [*lines, demand_sentence(desk, demands)] if demands else lines
+    sentences = [demand_sentence(desk, demands)] if demands else []
+    return [*lines, *sentences, *_no_flow(desk)]
+
+
+def _no_flow(desk: Desk) -> list[str]:
+    """Return the line that tells why nothing flows although something could."""
+    is_unsolved = not desk.value and not desk.is_greatest
+    return ["there is no flow yet: `solve` finds the greatest"] if is_unsolved else []
 
 
 def _present_scenario(project: Scenarios) -> str:
