@@ -3,6 +3,7 @@ output, and while its programs end. It ends by the signal or with 130, and witho
 
 from __future__ import annotations
 
+import contextlib
 import os
 import signal
 import subprocess
@@ -13,6 +14,7 @@ from pathlib import Path
 import pytest
 from built import heed_interrupts
 from client_shared import BUILT, ROOT
+from terminals import Terminal
 from tool_runs import wait_until_asleep
 
 SECONDS = 60
@@ -131,6 +133,49 @@ def test_while_programs_end(tmp_path: Path, count: int) -> None:
             os.kill(with_end, signal.SIGKILL)
         except ProcessLookupError:
             pass
+
+
+@pytest.mark.parametrize("by", [signal.SIGINT, signal.SIGTERM, signal.SIGHUP])
+def test_programs_end_with_a_desk(tmp_path: Path, by: signal.Signals) -> None:
+    """At a terminal, in the first solve. The program is in a session of its own, where no signal of
+    the terminal reaches it, and notices only after the solve that nobody is there any more."""
+    program, number = tmp_path / "slow", tmp_path / "slow.pid"
+    program.write_text(
+        f'#!/bin/sh\n[ "$1" != --version ] || exec "{BUILT}" "$@"\necho $$ >"$0.part"\n'
+        'mv "$0.part" "$0.pid"\nexec sleep 300\n'
+    )
+    program.chmod(0o700)
+    with Terminal() as terminal:
+        process = subprocess.Popen(
+            [sys.executable, f"{ROOT}/tools/dmf-plan", "net.max"],
+            stdin=terminal.end,
+            stdout=terminal.end,
+            stderr=terminal.end,
+            start_new_session=True,
+            preexec_fn=terminal.control,
+            env={**os.environ, "DMF": str(program)},
+        )
+        assert terminal.wait_for(lambda _: number.exists())
+        if by is signal.SIGINT:
+            terminal.type(b"\x03")
+        else:
+            process.send_signal(by)
+        process.wait(SECONDS)
+        solver = int(number.read_text())
+        try:
+            assert terminal.wait_for(lambda _: has_ended(solver))
+        finally:
+            with contextlib.suppress(ProcessLookupError):
+                os.kill(solver, signal.SIGKILL)
+    assert process.returncode == (INTERRUPTED if by is signal.SIGINT else -by)
+
+
+def has_ended(number: int) -> bool:
+    """Return True if a process has ended, whether or not somebody has asked for its status."""
+    try:
+        return Path(f"/proc/{number}/stat").read_text().rpartition(")")[2].split()[0] == "Z"
+    except FileNotFoundError:
+        return True
 
 
 def test_an_interrupt_that_is_ignored() -> None:

@@ -15,7 +15,7 @@ from ..errors import Error, Refused, SessionEnded
 from ..files import passed_on, scratch
 from ..history import Command
 from ..text.lexical import display
-from . import executable
+from . import executable, running
 from .base import (
     MOST_KEPT,
     MOST_TEXT,
@@ -62,6 +62,7 @@ class ProgramSession(Session):
         except BaseException:
             self._told.close()
             raise
+        running.note(self.process)
         super().__init__(_end, self.process, self._told, os.getpid())
         assert self.process.stdin and self.process.stdout
         self._input, self._output = self.process.stdin, self.process.stdout.fileno()
@@ -303,6 +304,7 @@ def answer_to(
         if error.filename == used:
             executable.refuse_unrun(used, error)
         raise
+    running.note(process)
     with process:
         try:
             if begun:
@@ -311,6 +313,8 @@ def answer_to(
         except BaseException:
             process.kill()
             raise
+        finally:
+            running.forget(process)
     if process.returncode == 0:
         return answer
     told = said[:MOST_TOLD].decode(errors="replace").strip()
@@ -337,6 +341,7 @@ def _end(process: subprocess.Popen[bytes], told: IO[bytes], owner: int) -> None:
     except subprocess.TimeoutExpired:
         process.kill()
         process.wait()
+    running.forget(process)
     process.stdout.close()
     told.close()
 

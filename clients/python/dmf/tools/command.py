@@ -14,6 +14,7 @@ from typing import BinaryIO, NoReturn
 
 from ..errors import Error, FileFault, OptionFault, SessionEnded, TableFault
 from ..files import cannot
+from ..session.running import kill_all
 from ..text.lexical import display
 
 
@@ -70,20 +71,36 @@ def statuses(*, may_refuse: bool = False) -> str:
 def run(name: str, main: Callable[[], int]) -> NoReturn:
     """Run a tool, and exit with the result of `main`, or with the status of an error, which is
     printed. If nobody reads its output any more, the signal for that ends it, as it ends other
-    filters."""
+    filters. Whatever ends it, the programs that it runs end with it."""
     signal.signal(signal.SIGPIPE, signal.SIG_DFL)
     if signal.getsignal(signal.SIGINT) is not signal.SIG_IGN:
         signal.signal(signal.SIGINT, _end_interrupted)
+    for number in signal.SIGTERM, signal.SIGHUP:
+        if signal.getsignal(number) is signal.SIG_DFL:
+            signal.signal(number, _end_by)
     try:
         status = _status(name, main)
     except KeyboardInterrupt:
         status = Status.INTERRUPTED
     # All output is written, and nothing is left to report.
+    _exit(status)
+
+
+def _exit(status: int) -> NoReturn:
+    """Exit at once, and leave no program behind."""
+    kill_all()
     os._exit(status)
 
 
 def _end_interrupted(*_: object) -> NoReturn:
-    os._exit(Status.INTERRUPTED)
+    _exit(Status.INTERRUPTED)
+
+
+def _end_by(number: int, _: object) -> None:
+    """End by a signal, as if it had not been caught, and leave no program behind."""
+    kill_all()
+    signal.signal(number, signal.SIG_DFL)
+    os.kill(os.getpid(), number)
 
 
 def raise_interrupts() -> None:
