@@ -305,7 +305,7 @@ def test_malformed(tmp_path: Path) -> None:
             status, _, told = it.ask(it.root + path)
             assert (status, json.loads(told)) == (409, {"error": "no table is open"})
         assert asked(it, "do", {"what": "undo", "turn": 1})[0] == 409
-        assert asked(it, "stop", {}) == (200, {})
+        assert asked(it, "stop", {}) == (200, {"is_stopped": False})
         assert it.told("import")["answer"]["said"] == "40 can be sent from Res to Town"
 
 

@@ -209,7 +209,7 @@ def while_stopped(it: Board, ask: Callable[[], tuple[int, Any]]) -> tuple[int, A
     thread.start()
     while thread.is_alive():
         time.sleep(0.3)
-        assert asked(it, "stop", {}) == (200, {})
+        assert asked(it, "stop", {})[0] == 200
     return replies[0]
 
 

@@ -4,13 +4,16 @@ from __future__ import annotations
 
 import resource
 import socket
+import time
 from pathlib import Path
+from typing import Any
 
 import pytest
 from board_running import JSON, board
 from built import heed_interrupts
 from dmf.desk.board.import_options import nothing_said
 from test_board_import import BYTES, OPEN, PLAIN, asked, importing, sent
+from test_board_import_page import DROP, ImportPage
 
 pytestmark = pytest.mark.seconds(10)
 MOST = 1 << 28
@@ -89,6 +92,54 @@ def test_broken_upload(tmp_path: Path) -> None:
             line.shutdown(socket.SHUT_WR)
             assert b" 400 " in line.recv(1 << 12)
         assert list(tmp_path.iterdir()) == []
+
+
+def test_stop_while_a_file_is_sent(tmp_path: Path) -> None:
+    """The board has nothing to stop and says so; once the page ends the sending, nothing of the
+    file is kept, and the import is what it was."""
+    with importing(tmp_path, PLAIN) as it:
+        before = it.told("import")
+        with socket.create_connection(("127.0.0.1", it.port)) as line:
+            head = f"POST {it.root}upload?name=a.csv HTTP/1.1\r\nHost: {it.host}\r\n"
+            head += "Content-Type: application/octet-stream\r\nContent-Length: 100\r\n\r\n"
+            line.sendall(head.encode() + b"from,to")
+            assert asked(it, "stop", {}) == (200, {"is_stopped": False})
+        assert it.told("import") == before
+        assert [path.name for path in tmp_path.iterdir()] == ["s.csv"]
+        assert sent(it, "b.csv", PLAIN.encode())[1]["file"]["name"] == "b.csv"
+
+
+# How fast a slow line takes bytes, and what it takes a minute for, in bytes.
+SLOW = {"offline": False, "latency": 0, "downloadThroughput": -1, "uploadThroughput": 20_000}
+LONG = 1_200_000
+
+
+def test_stop_on_the_page(driver: Any, tmp_path: Path) -> None:
+    """Stop ends the sending of a file over a slow line. The page shows what it did before, and
+    takes another file."""
+    with importing(tmp_path, PLAIN) as it:
+        page = ImportPage(driver, it.address)
+        page.says("40 can be sent from Res to Town")
+        driver.execute_cdp_cmd("Network.enable", {})
+        try:
+            driver.execute_cdp_cmd("Network.emulateNetworkConditions", SLOW)
+            driver.execute_script(DROP, [["long.csv", PLAIN * (LONG // len(PLAIN))]])
+            page.wait(lambda: driver.find_element("id", "long").is_displayed())
+            began = time.monotonic()
+            driver.find_element("id", "end").click()
+            page.settle()
+            assert time.monotonic() - began < LONG / SLOW["uploadThroughput"] / 2
+        finally:
+            driver.execute_cdp_cmd(
+                "Network.emulateNetworkConditions", {**SLOW, "uploadThroughput": -1}
+            )
+        page.says("40 can be sent from Res to Town")
+        assert page.text("#title") == "s.csv" and not page.text("#trouble") + page.text("#news")
+        assert not driver.find_element("id", "long").is_displayed()
+        assert [path.name for path in tmp_path.iterdir()] == ["s.csv"]
+        driver.execute_script(DROP, [["other.csv", PLAIN.replace("40", "30")]])
+        page.says("30 can be sent from Res to Town")
+        assert page.text("#title") == "other.csv"
 
 
 def test_no_room(tmp_path: Path) -> None:

@@ -46,6 +46,7 @@ NAMED_OR_FOUND: Sequence[tuple[Sequence[str], Mapping[str, Any]]] = [
     ([], {"source": "Lake"}),
 ]
 LAGO: Sequence[Mapping[str, Any]] = [{}, {"source": ["Lago"]}]
+FOUND_OR_ASKED: Sequence[Mapping[str, Any]] = [{}, {"matrix": True}]
 ENGLISH = valley("Lake", "Mill", "Hill", "Town")
 GERMAN = valley("See", "Mühle", "Berg", "Stadt")
 MATRICES: dict[str, Sequence[Matrix]] = {
@@ -216,7 +217,7 @@ MATRICES: dict[str, Sequence[Matrix]] = {
             85,
             given=given,
         )
-        for given in ({}, {"matrix": True})
+        for given in FOUND_OR_ASKED
     ],
     "matrix-numbered.csv": [
         Matrix(

@@ -210,9 +210,8 @@ def test_cells_of_no_place(third: str, what: str, is_row: bool) -> None:
     if what:
         assert f"each of its cells is the {what} of the others in its" in told_of(text)
         assert f"--{option} 'X' if it is a place" in told_of(text)
-    ends = {"source": [*"ADE"], "sink": [*"BCX"]}
-    ends = {"source": ends["sink"], "sink": ends["source"]} if is_row else ends
-    subject_of(TableOptions(**ends), "t.csv", text.encode())
+    source, sink = ("BCX", "ADE") if is_row else ("ADE", "BCX")
+    subject_of(TableOptions(source=[*source], sink=[*sink]), "t.csv", text.encode())
 
 
 @pytest.mark.parametrize("cells", ["4.5;7;3", "3;4.7;2"])

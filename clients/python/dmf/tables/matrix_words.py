@@ -48,8 +48,8 @@ _SURE = {
 _SURE = {kind: words - _UNSURE[kind] for kind, words in _SURE.items()}
 # Words that may stand beside these.
 _PERIODS = _words(
-    "day daily week weekly month monthly hourly hour tag woche monat stunde jour semaine mois heure "
-    "dia semana mes hora"
+    "day daily week weekly month monthly hourly hour tag woche monat stunde jour semaine mois "
+    "heure dia semana mes hora"
 )
 _BESIDE = _PERIODS | _words(
     "total totale gesamt of the de la du des der per pro par por place places node ort knoten lieu "
@@ -58,12 +58,12 @@ _BESIDE = _PERIODS | _words(
 # What is said of rows and columns, and not by places.
 _STATISTICS = HOURS | _words(
     "min minimum minimal minimo mean average avg mittel mittelwert schnitt durchschnitt moyenne "
-    "promedio media median count anzahl share anteil std stdev sd dev deviation variance abweichung "
-    "standardabweichung varianz ecart desviacion anmerkung anmerkungen hinweis hinweise notizen "
-    "commentaire commentaires remarques observation observations observaciones comentario "
-    "comentarios nota notas target actual soll ist difference differenz diferencia balance saldo "
-    "bilanz check kontrolle rest remaining remainder reserve spare priority prioritat priorite "
-    "prioridad rank rang rango"
+    "promedio media median count anzahl share anteil std stdev sd dev deviation variance "
+    "abweichung standardabweichung varianz ecart desviacion anmerkung anmerkungen hinweis "
+    "hinweise notizen commentaire commentaires remarques observation observations observaciones "
+    "comentario comentarios nota notas target actual soll ist difference differenz diferencia "
+    "balance saldo bilanz check kontrolle rest remaining remainder reserve spare priority "
+    "prioritat priorite prioridad rank rang rango"
 )
 # Signs of a mean.
 _MEANS = "\xd8\xf8\u2205"

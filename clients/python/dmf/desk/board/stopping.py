@@ -42,15 +42,16 @@ class Stoppable:
                 _await_stopped()
             raise Stopped
 
-    def stop(self) -> None:
-        """Stop the work that is going on, if there is any. The exception comes before the next
-        instruction of its thread."""
+    def stop(self) -> bool:
+        """Stop the work that is going on, and return True if there is any. The exception comes
+        before the next instruction of its thread."""
         with self._lock:
             if self._thread and not self._is_stopped:
                 self._is_stopped = True
                 _raise_in(self._thread)
                 if self._end:
                     self._end()
+            return bool(self._thread)
 
     def _forget(self) -> None:
         """Forget the thread, so that no exception is sent to it from now on."""

@@ -111,9 +111,8 @@ class TableImport:
         return self._judged(lambda: self._take(words["name"], data, is_part="of" in words))
 
     def stop(self) -> Response:
-        """Stop the reading, for another thread that does it."""
-        self._work.stop()
-        return answer({})
+        """Stop the reading, for another thread that does it, and answer whether there is one."""
+        return answer({"is_stopped": self._work.stop()})
 
     def end(self) -> None:
         """End the reading, if one goes on."""

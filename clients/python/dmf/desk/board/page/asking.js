@@ -13,19 +13,22 @@ let answered = 0;
  * another request was answered meanwhile, which shows that the board can be reached.
  * @param {string} path
  * @param {object} [content] what is posted, if anything
+ * @param {AbortSignal} [signal] what ends the request, which is not repeated then
  * @returns {Promise<{ answer: Response, told: any } | null>}
  */
-export async function heard(path, content) {
-  const before = answered, first = await tried(path, content);
-  return first ?? (answered > before && !ONCE.includes(path) ? tried(path, content) : null);
+export async function heard(path, content, signal) {
+  const before = answered, first = await tried(path, content, signal);
+  const isRepeated = answered > before && !ONCE.includes(path) && !signal?.aborted;
+  return first ?? (isRepeated ? tried(path, content, signal) : null);
 }
 
 /**
  * @param {string} path
  * @param {object} [content]
+ * @param {AbortSignal} [signal]
  */
-async function tried(path, content) {
-  const sent = content === undefined ? {} : posted(content);
+async function tried(path, content, signal) {
+  const sent = { ...(content === undefined ? {} : posted(content)), signal };
   for (const pause of [...(ONCE.includes(path) ? [] : PAUSES), null]) {
     try {
       const answer = await fetch(path, sent);
@@ -33,6 +36,7 @@ async function tried(path, content) {
       answered += 1;
       return { answer, told };
     } catch (error) {
+      if (signal?.aborted) return null;
       if (pause !== null) await new Promise((go) => setTimeout(go, pause));
     }
   }

@@ -31,6 +31,11 @@ let options = {};
 let isChanged = false;
 let pending = 0;
 /**
+ * What ends the sending of a file.
+ * @type {AbortController | null}
+ */
+let sending = null;
+/**
  * The end of the requests so far.
  * @type {Promise<unknown>}
  */
@@ -94,13 +99,24 @@ export const readAgain = () => change({});
  */
 export const upload = (files) => inTurn(async () => {
   const main = files[files.length - 1], of = `&of=${encodeURIComponent(main.name)}`;
+  const { signal } = sending = new AbortController();
   for (const file of files) {
     news(`Reading ${file.name} ..`);
-    const isHeard = await hear(`upload?name=${encodeURIComponent(file.name)}${file === main ? "" : of}`, file, file !== main);
+    const path = `upload?name=${encodeURIComponent(file.name)}${file === main ? "" : of}`;
+    const isHeard = await hear(path, file, file !== main, signal);
     news("");
-    if (!isHeard) return;
+    if (!isHeard) break;
   }
+  sending = null;
+  // The last piece may have arrived all the same: the board knows.
+  if (signal.aborted) await hear("import");
 });
+
+/** Stops what the board reads, or else the file that is still being sent, of which nothing is kept. */
+async function stop() {
+  const sent = sending, reply = await heard("stop", {});
+  if (sent === sending && !reply?.told.is_stopped) sent?.abort();
+}
 
 /** Goes on to the board. */
 export const open = () => inTurn(async () => {
@@ -115,10 +131,12 @@ export const open = () => inTurn(async () => {
  * @param {string} path
  * @param {object} [content] what is posted, if anything
  * @param {boolean} isFollowed whether another request follows, whose answer is shown
+ * @param {AbortSignal} [signal] what ends the request
  * @returns {Promise<boolean>} whether it was answered
  */
-async function hear(path, content, isFollowed = false) {
-  const reply = await heard(path, content);
+async function hear(path, content, isFollowed = false, signal) {
+  const reply = await heard(path, content, signal);
+  if (signal?.aborted) return false;
   if (!reply) {
     // Once the board can be reached again, it is sent again.
     isChanged = isChanged || path === "import" && content !== undefined;
@@ -194,6 +212,6 @@ heedLeaving();
 /** Shows the page for the first time. */
 export function begin() {
   // Requests are made one after another, and this one stops the one that is waited for.
-  onClick("end", () => heard("stop", {}));
+  onClick("end", stop);
   return renew();
 }
