@@ -34,7 +34,13 @@ def a_project() -> Project:
         ["a note"],
     )
     project = Project(
-        "ab", table, "p max 2 0\nn 1 s\nn 2 t\n", notes="for\nMay", positions={"Mill": (1.5, -2.0)}
+        "ab",
+        table,
+        "p max 2 0\nn 1 s\nn 2 t\n",
+        notes="for\nMay",
+        positions={"Mill": (1.5, -2.0)},
+        positions_from="drawing",
+        moved={"Mill": (3.0, 4.25)},
     )
     scenarios = (
         Scenario("first", (STEP, STEP), 1, note='"so"', left_out=(STEP,)),

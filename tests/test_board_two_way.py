@@ -123,7 +123,7 @@ def groups(board: Board) -> dict[str, ElementTree.Element]:
 
 def test_picture(board: Board) -> None:
     """One line for each, whose arrow points to where it flows: from B to C on Main."""
-    board.shown.picture.places.spots.update(
+    board.shown.placement.places.spots.update(
         {1: Spot(0, 0), 2: Spot(300, 0), 3: Spot(0, 300), 4: Spot(300, 300), 5: Spot(600, 300)}
     )
     found = groups(board)
@@ -150,8 +150,8 @@ def test_picture(board: Board) -> None:
 def test_map(board: Board) -> None:
     """On a map the second arc is not drawn, and each has the sign of the way that it flows."""
     spots = {node: Spot(100.0 * node, 0) for node in range(1, 6)}
-    board.shown.picture.places.spots.update(spots)
-    looks = Overview(board.desk, board.shown.picture.places, board.shown.looks).looks()
+    board.shown.placement.places.spots.update(spots)
+    looks = Overview(board.desk, board.shown.placement.places, board.shown.looks).looks()
     assert (looks["arcs"], looks["ways"]) == ("fl lf u ", "><" " >" "> " "- ")
 
 

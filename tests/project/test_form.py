@@ -79,6 +79,16 @@ def test_half_a_file(path: str) -> None:
             "table.assumed[0] is a whole number, and not a text",
         ),
         (lambda it: it["positions"].update(Mill=[1]), "positions['Mill'] is not two numbers"),
+        (lambda it: it["moved"].update(Mill=[1, "2"]), "moved['Mill'] is not two numbers"),
+        (lambda it: it["moved"].update(Mill=[1, 1e400]), "Infinity is not a JSON number"),
+        (
+            lambda it: it.update(positions_from="paper"),
+            "positions_from is 'paper', and not 'map' or 'drawing'",
+        ),
+        (
+            lambda it: it.update(positions_from="map"),
+            "moved has places, and positions_from is not 'drawing'",
+        ),
         (
             lambda it: it.update(present="nobody"),
             "present is 'nobody', and no scenario has that name",

@@ -171,15 +171,15 @@ def test_board(tmp_path: Path) -> None:
     assert (status, told["places"]) == (200, 10)
     assert end("new town") == (10, [], "")
     board.get("picture", {"near": ""})
-    spot = board.shown.picture.places.spots[10]
+    spot = board.shown.placement.places.spots[10]
     ask(board, what="go", step=0)
     ask(board, what="add-new", head="Hill", tail=1, capacity="50", name="")
     assert "Hill" in json.loads(board.get("picture", {"near": ""}).body)["svg"]
-    hill = board.shown.picture.places.spots[10]
+    hill = board.shown.placement.places.spots[10]
     assert hill != spot
     assert ask(board, what="add-new", head="New Town", **new)[0] == 200
     board.get("picture", {"near": ""})
-    assert (board.shown.picture.places.spots[10], board.shown.picture.places.spots[11]) == (
+    assert (board.shown.placement.places.spots[10], board.shown.placement.places.spots[11]) == (
         hill,
         spot,
     )

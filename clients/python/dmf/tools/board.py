@@ -35,7 +35,8 @@ from .options import RaisingParser, add_words, words_of
 if TYPE_CHECKING:
     from collections.abc import Sequence
 
-    from ..desk.board.layout import Map, Spot
+    from ..desk.board.layout import Spot
+    from ..desk.board.maps import Map
     from ..desk.board.responses import Answering
     from ..desk.board.routes import Board
     from ..desk.board.server import Door, Server
@@ -126,7 +127,7 @@ def opened(words: argparse.Namespace) -> Desk:
 def spots_of(words: argparse.Namespace, desk: Desk) -> dict[int, Spot]:
     """Return where the places lie, if there is a map: one that was named, a table of places with
     the columns of a map, or the file of the network itself."""
-    from ..desk.board.layout import NoMap, placed, read_map
+    from ..desk.board.maps import NoMap, placed, read_map
 
     path = words.map or words.place_table
     try:
@@ -156,7 +157,8 @@ def spots_of(words: argparse.Namespace, desk: Desk) -> dict[int, Spot]:
 
 def _map_of_file(desk: Desk) -> Map | None:
     """Return the map that is part of the network's file, or None."""
-    from ..desk.board.layout import Map, Spot
+    from ..desk.board.layout import Spot
+    from ..desk.board.maps import Map
 
     plan = desk.network.subject.plan
     positions = plan.arcs.sheet.positions if plan else None

@@ -26,7 +26,8 @@ class LivePages:
 
     def __init__(self, turn: int, clock: Callable[[], float] = time.monotonic) -> None:
         self._clock = clock
-        self._told = turn
+        # The turn, and the version of the picture.
+        self._told = turn, 0
         self._changed = threading.Condition()
         self._held: dict[socket.socket, str] = {}
         # Those of them that said that they are left, but whose connections have not ended yet.
@@ -48,7 +49,7 @@ class LivePages:
             self._until.pop(name, None)
             self._until[""] = self._clock() + AFTER_REQUEST
             self._changed.notify_all()
-            _tell(page, self._told)
+            _tell(page, *self._told)
 
     def leave(self, name: str) -> None:
         """Record that a page was left, as when it is closed or reloaded. Its connection has ended
@@ -86,21 +87,25 @@ class LivePages:
                 self._changed.wait(rest)
             return not self._held
 
-    def tell(self, turn: int) -> None:
-        """Tell each page the turn, if it is another than it was told before."""
+    def tell(self, turn: int, picture: int = 0) -> None:
+        """Tell each page the turn, and the version of the picture, in which places may have moved,
+        if they are others than it was told before."""
+        now = turn, picture
         with self._changed:
-            for page in self._held if turn != self._told else ():
-                _tell(page, turn)
-            self._told = turn
+            for page in self._held if now != self._told else ():
+                _tell(page, *now)
+            self._told = now
 
     def _wait_for(self, name: str, seconds: float) -> None:
         self._until[name] = max(self._until.get(name, 0.0), self._clock() + seconds)
 
 
-def _tell(page: socket.socket, turn: int) -> None:
-    """Send an event with the turn. A page that takes nothing, or has gone, is not waited for."""
+def _tell(page: socket.socket, turn: int, picture: int) -> None:
+    """Send an event with the turn, and the version of the picture if that was changed. A page that
+    takes nothing, or has gone, is not waited for."""
+    told = f"{turn} {picture}" if picture else str(turn)
     with contextlib.suppress(OSError):
-        page.send(f"data: {turn}\n\n".encode(), socket.MSG_DONTWAIT)
+        page.send(f"data: {told}\n\n".encode(), socket.MSG_DONTWAIT)
 
 
 # How many connections may wait that have not shown the token, and how long each may take to show

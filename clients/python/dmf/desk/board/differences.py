@@ -98,13 +98,17 @@ class DifferencePicture(Picture):
     def __init__(self, desk: Desk, places: Places) -> None:
         super().__init__(desk)
         # Places have other sizes here, so arcs are routed again.
-        self.places = Places(places.spots, called=places.called, apart=places.apart)
+        self.places = Places()
+        self._others = places
         # The nodes of the places that were made in either scenario, by their names.
         self._made: dict[str, int] = {}
 
     def of(self, found: Comparison, *, to_take: bool = False) -> tuple[str, str]:
         """Return the picture of a comparison, and why it lacks arcs, if it does. Raise
         `NoPicture`."""
+        others = self._others
+        self.places.spots, self.places.moved = others.spots, others.moved
+        self.places.called, self.places.apart = others.called, others.apart
         drawn = self._drawn(found)
         root = self.laid_out(self._shape_between(drawn))
         groups = {group.get("id") or "": group for group in root.iter(f"{{{SVG}}}g")}

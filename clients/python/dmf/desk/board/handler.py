@@ -189,7 +189,7 @@ class Handler(BaseHTTPRequestHandler):
                 return ask(self.server.board)
             finally:
                 self.server.board = self.server.board.successor
-                self.server.guests.tell(self.server.board.turn)
+                self.server.guests.tell(self.server.board.turn, self.server.board.picture_version)
 
     def _content(self) -> Json:
         """Return the content of a request. Raise a `WrongForm`."""

@@ -1,7 +1,8 @@
 """Where the places of a picture lie.
 
 A place stays where it was put, whatever is drawn beside it: Graphviz puts the first picture as it
-does best, and later one new places near their neighbours. A table of coordinates may name them."""
+does best, and later one new places near their neighbours. A map may say where they lie, or a person
+may move them."""
 
 from __future__ import annotations
 
@@ -12,26 +13,17 @@ from collections.abc import Iterable, Iterator, Mapping, Sequence
 from dataclasses import dataclass, field
 from typing import NamedTuple
 
-from ...errors import TableFault
-from ...files import read_file
-from ...quantity import POINT, readings
-from ...tables.file_kinds import sheets_of
-from ...tables.loader import split_path
-from ...tables.sheet import Faults, Sheet, naming
-from ...tables.table_file import TableFile
-from ...tables.titles import PLACE, USUAL, title_of
 from ...text.drawing import graphviz
-from ...text.spelling import cleaned, quoted_name
 from ..steps import DeskFault
-from ..workspace import Desk
 
 # The approximate size of a place, in points, and the number of spots that are tried around the best
 # one; and how far apart they are, in heights of a place, first and where all of these are taken.
 WIDE, HIGH, MOST_SPOTS = 120.0, 50.0, 400
 FARTHER = 0.5, 2.0, 8.0
 # The most places that are drawn in layers of any shape; the greatest ratio of the layers' length to
-# their height, or the reverse, with more places; and the forces that spread out all others.
-MOST_LAYERED, MOST_LONG = 40, 2.3
+# their height, or the reverse, with more places; the most places for which layers are tried, which
+# takes long; and the forces that spread out all others.
+MOST_LAYERED, MOST_LONG, MOST_TRIED = 40, 2.3, 400
 FORCES = "K=1; repulsiveforce=1.4; smoothing=triangle; overlap=true"
 # The ratio of a window's width to its height, if it is not known; the most by which a picture is
 # stretched to it; up to which ratio of their forms a picture fits a window as it is; and up to
@@ -74,14 +66,43 @@ class Places:
     """The spots of places, by their nodes, and the routes between them that were drawn so far. A
     place that was made has its spot by its name, since its node may be another place's in another
     state: `called` has the names of those that were made, by their nodes, and `apart` the spots of
-    those that are not there now. `form` is how many times as wide as high the window is in which
-    they are put first."""
+    those that are not there now. `moved` has where those lie that were moved by hand, also by their
+    names if they were made; and `routed` the spots between which the routes were drawn. `form` is
+    how many times as wide as high the window is in which places are put first, and `number`
+    distinguishes a layout from others."""
 
     spots: dict[int, Spot] = field(default_factory=dict)
     routes: dict[Way, Route] = field(default_factory=dict)
     called: dict[int, str] = field(default_factory=dict)
     apart: dict[str, Spot] = field(default_factory=dict)
+    moved: Mapping[int | str, Spot] = field(default_factory=dict)
+    routed: Mapping[int, Spot] = field(default_factory=dict)
     form: float = WINDOW
+    number: int = 0
+
+    @property
+    def seen(self) -> Mapping[int, Spot]:
+        """Return where places are seen, by their nodes."""
+        if not self.moved:
+            return self.spots
+        nodes: dict[int | str, int] = {name: node for node, name in self.called.items()}
+        moved = ((nodes.get(it, it), spot) for it, spot in self.moved.items())
+        there = {it: spot for it, spot in moved if isinstance(it, int) and it in self.spots}
+        return {**self.spots, **there}
+
+    def route(self, way: Way) -> Route | None:
+        """Return the route of an arc, if it was drawn between the spots that its ends have now."""
+        if way not in self.routes:
+            return None
+        seen = self.seen
+        is_drawn = all(seen[node] == self.routed.get(node) for node in way[:2])
+        return self.routes[way] if is_drawn else None
+
+    def take(self, other: Places) -> None:
+        """Take the spots and routes of another layout of the same places."""
+        self.spots, self.routes, self.routed = other.spots, other.routes, other.routed
+        self.called, self.apart = other.called, other.apart
+        self.form, self.number = other.form, other.number
 
     def call(self, made: Mapping[int, str]) -> None:
         """Take as the places that were made these, by their nodes."""
@@ -91,10 +112,6 @@ class Places:
         for node, name in made.items():
             if name in self.apart:
                 self.spots[node] = self.apart.pop(name)
-        if made:
-            # A route may have been drawn for another place with the same node.
-            kept = (it for it in self.routes.items() if made.keys().isdisjoint(it[0][:2]))
-            self.routes = dict(kept)
         self.called.clear()
         self.called.update(made)
 
@@ -106,14 +123,17 @@ class Places:
         if new and not known:
             return self._put_apart(new, list(ways), text)
         if new:
-            self.put_near(_rough(text, {node: self.spots[node] for node in known}, new))
+            self.put_near(_rough(text, {node: self.seen[node] for node in known}, new))
         return ""
 
     def _put_apart(self, new: list[int], ways: list[Way], text: str) -> str:
         """Put places, none of which is known yet, as Graphviz does best, beside those that are
         known."""
-        found, drawn = _layered(text, self.form)
-        if len(new) > MOST_LAYERED and _misfit(found, self.form) > MOST_LONG:
+        if len(new) > MOST_TRIED:
+            found, drawn = Places(spread_out(text, ways, self.form)), ""
+        else:
+            found, drawn = _layered(text, self.form)
+        if MOST_LAYERED < len(new) <= MOST_TRIED and _misfit(found, self.form) > MOST_LONG:
             found, drawn = Places(spread_out(text, ways, self.form)), ""
         elif _misfit(found, self.form) > FITS:
             found, drawn = Places(_stretched(found.spots, self.form)), ""
@@ -121,15 +141,16 @@ class Places:
         left = min((spot.x for spot in found.spots.values()), default=0.0)
         by = right + APART - left if self.spots else 0.0
         self.spots.update({node: Spot(spot.x + by, spot.y) for node, spot in found.spots.items()})
-        if not by:
-            self.routes.update(
-                {way: route for way, route in found.routes.items() if way in set(ways)}
-            )
-        return "" if by else drawn
+        if by:
+            return ""
+        drawn_ways = set(ways)
+        self.routes = {way: route for way, route in found.routes.items() if way in drawn_ways}
+        self.routed = found.spots
+        return drawn
 
     def put_near(self, rough: Mapping[int, Spot]) -> None:
         """Put each of these places near the spot given for it, where no other place lies."""
-        taken = _FreeSpots(self.spots.values())
+        taken = _FreeSpots(self.seen.values())
         for node, spot in rough.items():
             self.spots[node] = taken.free(spot)
 
@@ -138,7 +159,7 @@ class Places:
         lies and, if there is such a spot, none of these lines."""
         x, y = (sum(spot[axis] for spot in others) / len(others) for axis in (0, 1))
         points = [point for line in lines for point in _points(*line)]
-        self.spots[node] = _FreeSpots(self.spots.values()).free(Spot(x + WIDE, y - HIGH), points)
+        self.spots[node] = _FreeSpots(self.seen.values()).free(Spot(x + WIDE, y - HIGH), points)
 
 
 def _points(begin: Spot, end: Spot) -> Iterator[Spot]:
@@ -314,164 +335,3 @@ def run(text: str, engine: str, *words: str) -> str:
         raise NoPicture(f"Graphviz did not draw it: {error.strerror}") from None
     except RuntimeError as error:
         raise NoPicture(str(error)) from None
-
-
-# The usual titles of columns to the right and upwards: of a plane, and of the globe.
-PLANE = ("x easting east rechtswert".split(), "y northing north hochwert".split())
-GLOBE = ("lon longitude long lng".split(), "lat latitude".split())
-# The approximate distance of neighbours, in points; and the most degrees to the right and upwards.
-MAP_APART, DEGREES = 150.0, (180, 90)
-
-
-class NoMap(TableFault):
-    """The refusal of a table of places that does not say where they lie."""
-
-
-class _MapColumns(NamedTuple):
-    """The columns of a map: the place, and how far it lies to the right and upwards."""
-
-    place: int
-    right: int
-    up: int
-    is_globe: bool
-
-
-@dataclass(frozen=True)
-class Map:
-    """The position of each place of a map, by its name, in the units of its table, and whether
-    these are degrees of the globe."""
-
-    spots: Mapping[str, Spot]
-    is_globe: bool
-
-
-def read_map(path: str, sign: str = "", encoding: str | None = None) -> Map:
-    """Return the map in a table of places; `sign` is its decimal sign, if that is known. Raises a
-    `TableFault` that names all rows that cannot be read, and a `FileFault` if the file cannot be
-    read."""
-    told, name = split_path(path)
-    data = read_file(told)
-    with naming(told):
-        sheet = _sheet(data, told, name, encoding)
-        rows = [
-            (line, row)
-            for piece in sheet.read()
-            for line, row in zip(*piece)
-            if any(map(cleaned, row))
-        ]
-        if not rows:
-            raise TableFault("the table has no row")
-        columns = _columns_of(rows[0][1], rows[0][0])
-        return Map(_spots(rows[1:], columns, sign, sheet.path), columns.is_globe)
-
-
-def _sheet(data: bytes, path: str, name: str, encoding: str | None) -> Sheet:
-    found = [
-        sheet
-        for sheet in sheets_of(TableFile(data, path, encoding))
-        if not name or sheet.path.rpartition("#")[2] == name
-    ]
-    if len(found) != 1:
-        several = "which sheet is it? Name one after the file, as in places.xlsx#Sheet"
-        raise TableFault(several if found else f"no sheet is called {quoted_name(name)}")
-    return found[0]
-
-
-def _columns_of(titles: Sequence[str], line: int) -> _MapColumns:
-    words = [title_of(title).word for title in titles]
-
-    def first(usual: Sequence[str]) -> int:
-        return next((place for place, word in enumerate(words) if word in usual), -1)
-
-    for is_globe, (right, up) in (False, PLANE), (True, GLOBE):
-        found = _MapColumns(first(USUAL[PLACE]), first(right), first(up), is_globe)
-        if min(found[:3]) >= 0:
-            return found
-    raise NoMap(
-        "a map has the columns place, x and y, or place, lon and lat; here are "
-        f"{', '.join(map(quoted_name, titles))}",
-        line,
-    )
-
-
-def _spots(
-    rows: Sequence[tuple[int, list[str]]], columns: _MapColumns, sign: str, path: str
-) -> dict[str, Spot]:
-    faults = Faults(path)
-    sign = sign or _sign_of([row[at] for _, row in rows for at in columns[1:3] if at < len(row)])
-    spots: dict[str, Spot] = {}
-    for line, row in rows:
-        cells = [row[at] if at < len(row) else "" for at in columns[:3]]
-        name, numbers = cleaned(cells[0]), [readings(cell).get(sign) for cell in cells[1:]]
-        for number, at, most in zip(numbers, columns[1:3], DEGREES):
-            if number is None or columns.is_globe and abs(number) > most:
-                why = "is not a number" if number is None else f"is past {most} degrees"
-                faults.add(f"{quoted_name(row[at] if at < len(row) else '')} {why}", line, at + 1)
-        if not name or name in spots:
-            faults.add(
-                "a place has no name"
-                if not name
-                else f"the place {quoted_name(name)} stands twice",
-                line,
-                columns.place + 1,
-            )
-        elif all(number is not None for number in numbers):
-            spots[name] = Spot(*(float(number) for number in numbers if number is not None))
-    faults.judge()
-    if not spots:
-        raise TableFault("the table has titles, and no row below them")
-    return spots
-
-
-def _sign_of(cells: Sequence[str]) -> str:
-    """Return the decimal sign of all cells. Raises a `TableFault` if they leave it open."""
-    found = [one for one in map(readings, cells) if one]
-    fitting = [sign for sign in (POINT, ",") if all(sign in one for one in found)]
-    if len(fitting) == 2 and any(len(set(one.values())) > 1 for one in found):
-        cell = next(cell for cell in cells if len(set(readings(cell).values())) > 1)
-        raise TableFault(
-            f"{quoted_name(cell)} can be read in two ways; say --decimal . or --decimal ,"
-        )
-    return fitting[0] if fitting else POINT
-
-
-def placed(desk: Desk, given: Map) -> tuple[dict[int, Spot], list[str]]:
-    """Return the spots of the desk's places in a picture, by their nodes, and notes on the map."""
-    found = {
-        node: given.spots[name]
-        for name, node in desk.network.names.places.items()
-        if name in given.spots
-    }
-    if not found:
-        raise TableFault("no place of the map is one of the network")
-    return dict(_to_points(found, given.is_globe)), list(_notes(desk, given, len(found)))
-
-
-def _notes(desk: Desk, given: Map, count: int) -> Iterator[str]:
-    missing = [name for name in desk.network.names.places if name not in given.spots]
-    if missing:
-        yield (
-            f"{len(missing)} places are not on the map, as {quoted_name(missing[0])}: each lies "
-            "near its neighbours"
-        )
-    unknown = len(given.spots) - count
-    if unknown:
-        yield f"{unknown} places of the map are none of the network"
-
-
-def _to_points(spots: Mapping[int, Spot], is_globe: bool) -> Iterator[tuple[int, Spot]]:
-    """Yield the spots in points. Degrees of longitude are scaled by the cosine of the map's middle
-    latitude."""
-    lows, highs = (
-        [of(spot[axis] for spot in spots.values()) for axis in (0, 1)] for of in (min, max)
-    )
-    shrink = math.cos(math.radians((lows[1] + highs[1]) / 2)) if is_globe else 1.0
-    wide, high = (highs[0] - lows[0]) * shrink, highs[1] - lows[1]
-    # As far apart as places would be that fill such a map evenly, or lie on such a line.
-    points = (
-        MAP_APART * len(spots) ** 0.5 / (wide * high) ** 0.5
-        if wide and high
-        else MAP_APART * len(spots) / (wide or high or 1.0)
-    )
-    for node, spot in spots.items():
-        yield node, Spot((spot.x - lows[0]) * shrink * points, (spot.y - lows[1]) * points)

@@ -21,7 +21,7 @@ BEFORE, SHUT, PLAIN = "b", "s", "."
 
 class Overview:
     """The positions of all places of a desk and the arcs between them, if most positions are known
-    when the board begins."""
+    when the board begins, or after all were laid out."""
 
     def __init__(self, desk: Desk, places: Places, looks: Looks) -> None:
         """Take as `places` those of the picture, with the spots of a map or of a project."""
@@ -31,8 +31,12 @@ class Overview:
         self._places = places
         # The places that no step changes.
         self._nodes = network.folding.places(range(1, network.names.given_count + 1))
-        # Otherwise most of the drawing would be invented.
-        self._is_known = 2 * sum(node in places.spots for node in self._nodes) > len(self._nodes)
+        self.look()
+
+    def look(self) -> None:
+        """See whether most positions are known. Otherwise most of the drawing would be invented."""
+        known = sum(node in self._places.spots for node in self._nodes)
+        self._is_known = 2 * known > len(self._nodes)
 
     @property
     def is_there(self) -> bool:
@@ -48,7 +52,7 @@ class Overview:
                 "the positions of the places are not known, or the picture shows all of them"
             )
         self._put_all()
-        spots, desk = [self._places.spots[node] for node in self._nodes], self._desk
+        spots, desk = [self._places.seen[node] for node in self._nodes], self._desk
         ends = [*map(self._ends, range(1, desk.network.first_count + 1))]
         return {
             "nodes": self._nodes,
@@ -66,7 +70,7 @@ class Overview:
         arcs that were added, with their numbers, ends and signs. An arc has a sign in each of five
         texts, one for each field of a `Mark`."""
         self._put_all()
-        desk, spots = self._desk, self._places.spots
+        desk, spots = self._desk, self._places.seen
         network = desk.network
         side, shown = desk.side(), network.pictured()
         marks = dict(zip(shown, self._looks.marks(shown)))
@@ -105,15 +109,16 @@ class Overview:
         middle of all."""
         made = self._desk.network.names.made
         self._places.call(made)
-        spots, nodes = self._places.spots, [*self._nodes, *made]
+        places, nodes = self._places, [*self._nodes, *made]
         beside: dict[int, list[int]] = defaultdict(list)
         for tail, head in map(self._ends, self._desk.network.pictured()):
             beside[tail].append(head)
             beside[head].append(tail)
-        while left := [node for node in nodes if node not in spots]:
-            near = {node: [spots[one] for one in beside[node] if one in spots] for node in left}
+        while left := [node for node in nodes if node not in places.spots]:
+            seen = places.seen
+            near = {node: [seen[one] for one in beside[node] if one in seen] for node in left}
             rough = {node: _middle(found) for node, found in near.items() if found}
-            self._places.put_near(rough or dict.fromkeys(left, _middle(list(spots.values()))))
+            places.put_near(rough or dict.fromkeys(left, _middle(list(seen.values()))))
 
 
 def _middle(spots: list[Spot]) -> Spot:

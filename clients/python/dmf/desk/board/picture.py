@@ -18,7 +18,8 @@ from ..pipes import TwoWayPipe
 from ..steps import DeskArc
 from ..workspace import Desk
 from .arrows import SVG, add_arrows, turn_arrow
-from .layout import Places, Way, run
+from .layout import Places, Spot, Way, run
+from .layout_run import LayoutRun
 
 # Up to this many places, arcs are routed around places, which takes a second for 50 of them.
 MOST_ROUTED = 20
@@ -102,8 +103,9 @@ class Picture:
         self._desk = desk
         self.places = Places()
         self._given: Counter[int] | None = None
-        # The layouts of the last shapes. No place moves, so that a step back finds its own.
-        self._layouts: dict[Shape, str] = {}
+        # The layouts of the last shapes, so that a step back finds its own, with the spots of their
+        # places: these may have been moved by hand since.
+        self._layouts: dict[Shape, tuple[list[Spot], str]] = {}
 
     def svg(self, nodes: tuple[int, ...], arcs: list[int], *, to_take: bool = False) -> str:
         """Return the picture of these arcs, and of these nodes even if they have no arc. With
@@ -116,33 +118,51 @@ class Picture:
 
     def _put_made(self) -> None:
         """Put each place that was made, and has no spot yet, beside its neighbours."""
-        network, spots = self._desk.network, self.places.spots
+        network, places = self._desk.network, self.places
         made = network.names.made
-        self.places.call(made)
-        if made.keys() <= spots.keys():
+        places.call(made)
+        if made.keys() <= places.spots.keys():
             return
         ends = [self._ends(line) for line in network.lines[network.first_count :]]
         every = [self._ends(network.lines[it - 1]) for it in network.pictured()[:MOST_DRAWN]]
-        lines = [(spots[one], spots[two]) for one, two in every if {one, two} <= spots.keys()]
-        for node in sorted(made.keys() - spots.keys()):
-            others = {it for pair in ends if node in pair for it in pair} & spots.keys()
+        seen = places.seen
+        lines = [(seen[one], seen[two]) for one, two in every if {one, two} <= seen.keys()]
+        for node in sorted(made.keys() - places.spots.keys()):
+            others = {it for pair in ends if node in pair for it in pair} & places.spots.keys()
             if others:
-                self.places.put_beside(node, [spots[it] for it in others], lines)
+                places.put_beside(node, [places.seen[it] for it in others], lines)
 
     def laid_out(self, shape: Shape) -> ElementTree.Element:
         """Return the layout of a shape, without numbers. Raises `NoPicture`."""
-        layout = self._layouts.pop(shape, "") or self._lay_out(shape)
+        spots, layout = self._layouts.pop(shape, ([], ""))
+        if not layout or spots != self._seen_of(shape):
+            layout = self._lay_out(shape)
         self._layouts = dict([*self._layouts.items()][1 - MOST_KEPT :])
-        self._layouts[shape] = layout
+        self._layouts[shape] = self._seen_of(shape), layout
         root = ElementTree.fromstring(layout)
         _seen(root)
         add_arrows(root)
         return root
 
+    def begin_layout(self, arcs: list[int], nodes: tuple[int, ...], version: int) -> LayoutRun:
+        """Lay out these arcs and nodes from the beginning, in a thread of its own."""
+        shape = self._shape_of(arcs, nodes)
+        ways = shape.ways()
+        text = _text(self._lines(shape, ways))
+        drawn = [it.node for it in shape.nodes]
+        run = LayoutRun(text, drawn, [*ways.values()], self.places.form, version)
+        run.found.called.update(self._desk.network.names.made)
+        return run
+
+    def _seen_of(self, shape: Shape) -> list[Spot]:
+        """Return where the places of a shape are seen, as far as they have spots."""
+        seen = self.places.seen
+        return [seen[it.node] for it in shape.nodes if it.node in seen]
+
     def _lay_out(self, shape: Shape) -> str:
         ways = shape.ways()
         drawn = self.places.put(
-            (it.node for it in shape.nodes), ways.values(), _text(self._lines(shape, ways))
+            [it.node for it in shape.nodes], [*ways.values()], _text(self._lines(shape, ways))
         )
         return drawn or run(_text(self._lines(shape, ways, is_put=True)), "neato", "-n2", "-Tsvg")
 
@@ -221,7 +241,7 @@ class Picture:
     def _lines(self, shape: Shape, ways: dict[int, Way], *, is_put: bool = False) -> Iterator[str]:
         """Yield the lines of a picture for Graphviz. With `is_put` it has the spots and routes that
         are known."""
-        network = self._desk.network
+        network, seen = self._desk.network, self.places.seen
         splines = "line" if is_put and len(shape.nodes) > MOST_ROUTED else "true"
         yield (
             "digraph dmf {\n  rankdir=LR; bgcolor=transparent; ranksep=0.2; nodesep=0.6; "
@@ -239,7 +259,7 @@ class Picture:
             if it.node in (*network.sources, *network.sinks):
                 looks["peripheries"] = "2"
             if is_put:
-                looks["pos"] = '"{:.2f},{:.2f}"'.format(*self.places.spots[it.node])
+                looks["pos"] = '"{:.2f},{:.2f}"'.format(*seen[it.node])
             yield drawn_line(str(it.node), looks)
         for arc in shape.arcs:
             label = quoted(_label(arc.name), arc.widest) if arc.name else quoted(arc.widest)
@@ -249,14 +269,10 @@ class Picture:
                 "label": label,
                 "class": '"{} {} {}"'.format(*way),
             }
-            if is_put and way in self.places.routes:
-                looks.update(
-                    {
-                        name: quoted(text)
-                        for name, text in zip(("pos", "lp"), self.places.routes[way])
-                        if text
-                    }
-                )
+            route = self.places.route(way) if is_put else None
+            if route:
+                named = zip(("pos", "lp"), route)
+                looks.update({name: quoted(text) for name, text in named if text})
             yield drawn_line(f"{arc.tail} -> {arc.head}", looks)
         yield "}"
 
@@ -270,7 +286,7 @@ class Picture:
         for group in groups.values():
             for title in group.findall(f"{{{SVG}}}title"):
                 group.remove(title)
-        for number, *_ in shape.arcs:
+        for number, tail, head, *_ in shape.arcs:
             group = groups[f"arc-{number}"]
             pipe, flow = network.pipe(number), desk.flow(number)
             looks = {
@@ -281,6 +297,8 @@ class Picture:
             }
             if isinstance(pipe, TwoWayPipe):
                 turn_arrow(group, flow)
+            # The page moves the line along with a place that is dragged.
+            group.set("data-ends", f"{tail} {head}")
             group.findall(f"{{{SVG}}}text")[-1].text = _amounts(desk, number)
             _mark(
                 group,

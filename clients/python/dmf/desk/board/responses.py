@@ -49,6 +49,11 @@ class Answering(Protocol):
         """Return the number of the state that pages show."""
 
     @property
+    def picture_version(self) -> int:
+        """Return the number of the picture's layout, which is another one after a place was
+        moved."""
+
+    @property
     def desk(self) -> Optional[Desk]:
         """Return the desk that is open, if one is."""
 

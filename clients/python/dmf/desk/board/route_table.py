@@ -77,6 +77,8 @@ PART: Fields = {"first": int, "count": int}
 ROWS: Fields = {"filter": str, "sort": str, **PART}
 COSTS: Fields = {"column": str, "to": str, "second": str}
 ARCS: Fields = {"arcs": list, **TURN}
+MOVE: Fields = {"node": int, "right": int, "down": int, **FORM, **TURN}
+TIDY: Fields = {**NEAR, **FORM, **TURN}
 READ = {
     "turn": PageRoute({}, lambda board: {}),
     "state": PageRoute({}, lambda board: board.state()),
@@ -112,6 +114,10 @@ POSTED = {
         lambda board, arcs, turn: many_view(board.desk, arcs),
         judge=partial(judge_fields, form=ARCS),
     ),
+    # These change the picture, and not the network.
+    "move": PageRoute(MOVE, _part(Shown.move), judge=partial(judge_fields, form=MOVE)),
+    "tidy": PageRoute(TIDY, _part(Shown.begin_layout), judge=partial(judge_fields, form=TIDY)),
+    "tidied": PageRoute(TURN, _part(Shown.laid_out), judge=partial(judge_fields, form=TURN)),
     "seconds": PageRoute(ARCS, _part(Shown.seconds), Effect.TRY, judge=_judge_tried),
     **{f"do/{what}": _change(*act) for what, act in ACTS.items()},
     # The board itself keeps the steps.

@@ -15,7 +15,7 @@ from typing import Any, cast
 from urllib.parse import parse_qsl
 
 from ...quantity import moved
-from ..project.scenarios import Scenarios
+from ..project.scenarios import Scenarios, project_of
 from ..steps import DeskFault, unforeseen
 from ..workspace import Desk
 from .layout import Spot
@@ -44,7 +44,6 @@ class Board:
     """The answers to a page's requests about a desk."""
 
     page = PAGE
-    desk: Desk
 
     def __init__(
         self,
@@ -61,25 +60,33 @@ class Board:
         # Whether something is being done that can be stopped.
         self._is_busy = False
         self._busy_lock = threading.Lock()
-        self._show(desk, spots or {})
-
-    def _show(self, desk: Desk, spots: Mapping[int, Spot]) -> None:
-        """Show a desk from now on."""
         self.desk = desk
-        self.shown = Shown(desk, spots)
+        self.shown = Shown(desk, spots or {})
 
     def keep(self) -> None:
         """Keep the steps in a new project, and show that from now on."""
         if not self._keep_in or Scenarios.of(self.desk):
             raise DeskFault("a project cannot be made of this")
         before = self.desk
-        self._show(self._keep_in(self._offer, before), self.shown.picture.places.spots)
+        made = self._keep_in(self._offer, before)
+        try:
+            shown = Shown(made, {}, self.shown.placement)
+        except BaseException:
+            project_of(made).file.discard()
+            made.end()
+            raise
+        self.desk, self.shown = made, shown
         before.end()
 
     @property
     def turn(self) -> int:
         """Return the number of the state that pages show."""
         return self.desk.turn
+
+    @property
+    def picture_version(self) -> int:
+        """Return the number of the picture's layout."""
+        return self.shown.placement.version
 
     @property
     def successor(self) -> Answering:

@@ -2,7 +2,6 @@
 
 from __future__ import annotations
 
-import contextlib
 from collections.abc import Mapping
 
 from ..export import problem, table, taken
@@ -13,44 +12,36 @@ from .differences import Comparisons
 from .layout import NoPicture, Spot
 from .looks import Beginning, Looks
 from .overview import Overview
-from .picture import Picture
-from .positions import keep_spots, kept_spots, spots_apart
+from .positions import Placement
 from .responses import Json, Response, whole
 from .second_sweeps import SecondSweeps
 from .selection import ArcList, Nearby
-from .views import arc_views, second_view, worth_view
+from .views import arc_views, kept_view, second_view, worth_view
 from .worth_finder import WorthFinder
 
-# The forms of windows for which places are laid out, in hundredths of the height.
-FORMS = 50, 70, 100, 140, 200, 280
+# The most arcs that are laid out together, which takes some seconds.
+MOST_LAID_OUT = 3_000
 CHANGED = "the network has changed in another tab: look again"
 
 
 class Shown:
     """The parts of a page that shows a desk."""
 
-    def __init__(self, desk: Desk, spots: Mapping[int, Spot]) -> None:
+    def __init__(
+        self, desk: Desk, spots: Mapping[int, Spot], before: Placement | None = None
+    ) -> None:
+        """Take the spots of a map, or what another placement has. Raises what `Placement`
+        raises."""
         self.desk = desk
-        self.picture = Picture(desk)
-        places = self.picture.places
-        places.call(desk.network.names.made)
-        places.spots.update({**kept_spots(desk), **spots})
-        places.apart.update(spots_apart(desk))
-        # Unless some positions are known, each form of a window has a picture: the first one that
-        # is shown is that of the board.
-        self._is_laid_out = not places.spots
-        self._pictures: dict[int, Picture] = {}
+        self.placement = Placement(desk, spots, before)
         self.beginning = Beginning(desk)
         self.looks = Looks(desk, self.beginning)
-        self._overview = Overview(desk, self.picture.places, self.looks)
-        # The number of places that had spots when a project was last asked to store them, and the
-        # names of those that were made.
-        self._put: tuple[int, list[str]] = -1, []
+        self._overview = Overview(desk, self.placement.places, self.looks)
         self._nearby = Nearby(desk)
         self._rows_of_all = ArcList(desk, self.beginning)
         self.sweeps = SecondSweeps(desk)
         self.worth_finder = WorthFinder(desk)
-        self._comparisons = Comparisons(desk, self.picture.places)
+        self._comparisons = Comparisons(desk, self.placement.places)
 
     def rows(self, filter: str, sort: str, first: int, count: int) -> Json:
         return self._rows_of_all.view(filter, sort, first, count)
@@ -62,15 +53,18 @@ class Shown:
         return self._rows_of_all.found(text)
 
     def looks_of_all(self) -> Json:
+        self.placement.sync()
         return self._overview.looks()
 
     def comparison(self, one: str, two: str, first: int, count: int) -> Json:
         return self._comparisons.view(one, two, first, count)
 
     def difference(self, one: str, two: str) -> Json:
+        self.placement.sync()
         return self._comparisons.picture(one, two)
 
     def difference_file(self, one: str, two: str) -> Response:
+        self.placement.sync()
         return Response(200, "image/svg+xml", self._comparisons.file(one, two), "difference.svg")
 
     def report_file(self) -> Response:
@@ -79,48 +73,67 @@ class Shown:
     def _near(self, near: str) -> tuple[int, ...]:
         return self.desk.network.names.place_of(whole(near, "near")) if near else ()
 
-    def _picture_in(self, form: int) -> Picture:
-        """Return the picture for a window of this form: its width in percent of its height, or 0 if
-        that is not known."""
-        if not form or not self._is_laid_out:
-            return self.picture
-        known = min(FORMS, key=lambda it: max(it / form, form / it))
-        if known not in self._pictures:
-            made = Picture(self.desk) if self._pictures else self.picture
-            made.places.form = known / 100
-            self._pictures[known] = made
-        return self._pictures[known]
-
     def drawn(self, near: str, form: int = 0) -> Json:
         nodes = self._near(near)
         svg, reason, arcs = "", "", self._nearby.arcs(nodes)
+        picture = self.placement.picture_in(form)
         try:
-            svg = self._picture_in(form).svg(nodes, arcs)
+            svg = picture.svg(nodes, arcs)
         except NoPicture as fault:
             reason = str(fault)
-        self._keep_places()
+        self.placement.keep()
         marks = map("".join, self.looks.marks(arcs))
         told = [{**arc, "mark": mark} for arc, mark in zip(arc_views(self.desk, arcs), marks)]
-        return {"svg": svg, "reason": reason, "arcs": told, "has_ground": self._overview.is_there}
+        has_ground = self._overview.is_there
+        return {
+            "svg": svg,
+            "reason": reason,
+            "arcs": told,
+            "has_ground": has_ground,
+            "version": self.placement.version,
+            "layout": picture.places.number,
+            "origin": self.placement.origin,
+            "fixed": self.placement.why_fixed,
+            "can_lay_out": self.placement.can_lay_out,
+            "moved": len(self.placement.moved),
+        }
 
     def ground(self) -> Json:
+        self.placement.sync()
         made = self._overview.ground()
-        self._keep_places()
+        self.placement.keep()
         return made
 
-    def _keep_places(self) -> None:
-        """Store the positions of the places in the project. If that fails, the next step reports
-        it."""
-        spots = self.picture.places.spots
-        put = len(spots), [*self.desk.network.names.made.values()]
-        if put != self._put:
-            self._put = put
-            with contextlib.suppress(DeskFault):
-                keep_spots(self.desk, spots)
+    def move(self, node: int, right: int, down: int, form: int, turn: int) -> Json:
+        """Put a place somewhere else in the picture, in hundredths of a point."""
+        if turn != self.desk.turn:
+            raise DeskFault(CHANGED)
+        is_kept = self.placement.move(node, right, down, form)
+        return {"kept": kept_view(self.desk, "")["kept_in"] if is_kept else ""}
+
+    def begin_layout(self, near: str, form: int, turn: int) -> Json:
+        """Begin to lay out the picture anew for a window of this form: all of it, if it is not too
+        large, or else the part near a place."""
+        if turn != self.desk.turn:
+            raise DeskFault(CHANGED)
+        nodes = self._near(near)
+        arcs = self.desk.network.pictured()
+        if len(arcs) > MOST_LAID_OUT:
+            arcs = self._nearby.arcs(nodes)
+        self.placement.begin_layout(arcs, nodes, form)
+        return {}
+
+    def laid_out(self, turn: int) -> Json:
+        """Return whether the picture is still laid out anew."""
+        before = self.placement.version
+        is_laying_out = self.placement.is_laying_out()
+        if self.placement.version != before:
+            self._overview.look()
+        return {"is_laying_out": is_laying_out}
 
     def picture_file(self, near: str, form: int = 0) -> Response:
         nodes = self._near(near)
-        svg = self._picture_in(form).svg(nodes, self._nearby.arcs(nodes), to_take=True)
+        svg = self.placement.picture_in(form).svg(nodes, self._nearby.arcs(nodes), to_take=True)
         return Response(200, "image/svg+xml", taken(self.desk, svg.encode()), "plan.svg")
 
     def table_file(self) -> Response:

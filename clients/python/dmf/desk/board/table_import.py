@@ -56,7 +56,7 @@ class ImportTool(NamedTuple):
 class TableImport:
     """The answers to the requests of a page that imports a table."""
 
-    page = IMPORT_PAGE
+    page, picture_version = IMPORT_PAGE, 0
 
     def __init__(self, words: argparse.Namespace, tool: ImportTool) -> None:
         """Begin with what the arguments say; they need not name a file."""

@@ -3,7 +3,7 @@ has them, and is carried out in one way, whether a desk does it now or a journal
 
 from __future__ import annotations
 
-from collections.abc import Callable, Collection, Iterable
+from collections.abc import Callable, Collection, Iterable, Mapping
 from dataclasses import replace
 from decimal import Decimal
 from typing import Any
@@ -26,8 +26,8 @@ from ..steps import (
     Shut,
     Solve,
 )
-from .records import ArcName, PlaceName, Project, Request, Scenario
-from .schema import position_of, scenario_of, step_of, table_of
+from .records import DRAWN, ArcName, PlaceName, Project, Request, Scenario
+from .schema import judge_origin, position_of, positions_of, scenario_of, step_of, table_of
 from .strict_json import Fields, ProjectFault
 
 
@@ -150,17 +150,40 @@ def _notes(project: Project, content: Any, place: str) -> Project:
 
 def _positions(project: Project, content: Any, place: str) -> Project:
     """Give places positions, or remove those that they had."""
+    return replace(project, positions=_put(project.positions, content, place))
+
+
+def _moved(project: Project, content: Any, place: str) -> Project:
+    """Give places positions by hand, or take those back."""
+    if project.positions_from != DRAWN:
+        raise ProjectFault(f"{place}: positions_from is not {DRAWN!r}")
+    return replace(project, moved=_put(project.moved, content, place))
+
+
+def _put(
+    before: Mapping[str, tuple[float, ...]], content: Any, place: str
+) -> dict[str, tuple[float, ...]]:
     if not isinstance(content, dict):
         raise ProjectFault(
             f"{place}: expected an object, with two numbers or nothing for each place"
         )
-    positions = {**project.positions}
+    positions = {**before}
     for name, it in content.items():
         if it is None:
             positions.pop(name, None)
         else:
             positions[name] = position_of(it, f"{place}[{name!r}]")
-    return replace(project, positions=positions)
+    return positions
+
+
+def _layout(project: Project, content: Any, place: str) -> Project:
+    """Replace all positions, also those of places that were moved by hand."""
+    fields = Fields(content, place)
+    origin, given = fields.take("from", str), fields.take("positions", dict)
+    fields.end()
+    judge_origin(origin, fields.at("from"))
+    positions = positions_of(given, fields.at("positions"))
+    return replace(project, positions=positions, positions_from=origin, moved={})
 
 
 _ACTS: dict[str, Callable[[Project, Any, str], Project]] = {
@@ -174,6 +197,8 @@ _ACTS: dict[str, Callable[[Project, Any, str], Project]] = {
     "note": _note,
     "notes": _notes,
     "positions": _positions,
+    "moved": _moved,
+    "layout": _layout,
     "table": _table,
 }
 

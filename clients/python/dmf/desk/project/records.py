@@ -35,6 +35,9 @@ OPTIONS: dict[str, type] = {
     "shift": str,
     "daily": str,
 }
+# Where a project's places lie: as on a map, or as the picture was drawn. Empty if the project does
+# not say it, as an older one.
+MAP, DRAWN = "map", "drawing"
 # A place by its name, or by the number of its node if its name is not its own; an arc as [FROM, TO,
 # NAME], with its place among several alike if there are some, or as what a place gives, takes or
 # lets through; and what is asked for, as ["close", ARC].
@@ -97,7 +100,8 @@ class KeptTable:
 class Project:
     """A project after an act; each act makes another one of it. `identity` distinguishes it from
     others, `serial` counts the acts, `network` is the problem of its table with its names, and
-    `present` is the name of the present scenario."""
+    `present` is the name of the present scenario. `positions` are those of places in a picture,
+    from a map or as it was drawn, and `moved` those of places that were moved by hand since."""
 
     identity: str
     table: KeptTable
@@ -107,6 +111,8 @@ class Project:
     present: str = ""
     notes: str = ""
     positions: Mapping[str, tuple[float, ...]] = field(default_factory=dict)
+    positions_from: str = ""
+    moved: Mapping[str, tuple[float, ...]] = field(default_factory=dict)
 
     def scenario(self, name: str) -> Scenario | None:
         return next((it for it in self.scenarios if it.name == name), None)

@@ -290,16 +290,31 @@ class Scenarios:
 
     def take_positions(self, positions: Mapping[str, tuple[float, float] | None]) -> None:
         """Keep the positions of places in a picture, by their names; None removes one."""
+        self._keep_positions("positions", positions)
+
+    def take_moved(self, positions: Mapping[str, tuple[float, float] | None]) -> None:
+        """Keep where places were moved by hand, by their names; None takes it back."""
+        self._keep_positions("moved", positions)
+
+    def _keep_positions(
+        self, word: str, positions: Mapping[str, tuple[float, float] | None]
+    ) -> None:
         self.judge()
         for name in positions:
             place_meant(self.desk.network, name)
-        self._keep(
-            (
-                "positions",
-                {name: None if it is None else list(it) for name, it in positions.items()},
-            ),
-            by=0,
-        )
+        self._keep((word, {**positions}), by=0)
+
+    def take_layout(
+        self,
+        origin: str,
+        positions: Mapping[str, tuple[float, float]],
+        moved: Mapping[str, tuple[float, float]],
+    ) -> None:
+        """Keep these positions instead of all earlier ones, and those of places that were moved by
+        hand. `origin` says where they come from."""
+        self.judge()
+        layout = "layout", {"from": origin, "positions": {**positions}}
+        self._keep(layout, *[("moved", {**moved})] * bool(moved), by=0)
 
     @contextlib.contextmanager
     def visiting(self, name: str) -> Iterator[Desk]:

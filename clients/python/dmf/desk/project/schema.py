@@ -12,6 +12,8 @@ from typing import Any
 
 from ...quantity import LARGEST_EXPONENT, LONGEST_NUMBER, SIGNS
 from .records import (
+    DRAWN,
+    MAP,
     MARK,
     OPTIONS,
     PLACE_OPTIONS,
@@ -58,9 +60,13 @@ def parse_project(text: bytes) -> Project:
         fields.count("serial"),
         present=fields.take("present", str),
         notes=fields.take("notes", str, ""),
+        positions=positions_of(fields.take("positions", dict, {}), "positions"),
+        positions_from=fields.take("positions_from", str, ""),
+        moved=positions_of(fields.take("moved", dict, {}), "moved"),
     )
-    given = fields.take("positions", dict, {}).items()
-    positions = {name: position_of(position, f"positions[{name!r}]") for name, position in given}
+    judge_origin(project.positions_from or MAP, "positions_from")
+    if project.moved and project.positions_from != DRAWN:
+        raise ProjectFault(f"moved has places, and positions_from is not {DRAWN!r}")
     scenarios: dict[str, Scenario] = {}
     for at, content in enumerate(fields.take("scenarios", list)):
         place = f"scenarios[{at}]"
@@ -68,11 +74,22 @@ def parse_project(text: bytes) -> Project:
         if scenario.name in scenarios:
             raise ProjectFault(f"{place}.name is {scenario.name!r}, as that of another scenario")
         scenarios[scenario.name] = scenario
-    project = replace(project, scenarios=tuple(scenarios.values()), positions=positions)
+    project = replace(project, scenarios=tuple(scenarios.values()))
     fields.end()
     if not project.scenario(project.present):
         raise ProjectFault(f"present is {project.present!r}, and no scenario has that name")
     return project
+
+
+def judge_origin(content: object, place: str) -> None:
+    """Raise a `ProjectFault` if this does not say where positions come from."""
+    if content not in (MAP, DRAWN):
+        raise ProjectFault(f"{place} is {content!r}, and not {MAP!r} or {DRAWN!r}")
+
+
+def positions_of(content: Mapping[str, object], place: str) -> dict[str, tuple[float, ...]]:
+    """Return the coordinates of places, by their names."""
+    return {name: position_of(it, f"{place}[{name!r}]") for name, it in content.items()}
 
 
 def position_of(content: object, place: str) -> tuple[float, ...]:
@@ -251,6 +268,9 @@ def text_of(project: Project) -> bytes:
         "table": said_table(project.table),
         "notes": project.notes,
         "positions": project.positions,
+        # An older dmf refuses these two, so they are written only if they say something.
+        **({"positions_from": project.positions_from} if project.positions_from else {}),
+        **({"moved": project.moved} if project.moved else {}),
         "present": project.present,
     }
     lines = [f" {_dumped(name)}: {_dumped(content)}" for name, content in said.items()]

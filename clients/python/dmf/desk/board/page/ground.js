@@ -27,6 +27,8 @@ export const OF_LIMIT = 1e6;
 export const places = new Map();
 /** @type {number[][] | null} */
 let ends = null;
+/** The version of the picture to which the positions belong. */
+let known = 0;
 /**
  * The nodes of the places that were made, which a step may take back.
  * @type {number[]}
@@ -44,18 +46,20 @@ export const isGround = () => ground.lines.length > 0;
 export const isOfLimit = (line) => line.mark.state === "l";
 
 /**
- * Requests the positions, and then the looks.
+ * Requests the positions, unless they are known, and then the looks.
  * @param {boolean} isThere
+ * @param {number} version another one after a place was moved
  */
-export async function lookAtGround(isThere) {
+export async function lookAtGround(isThere, version) {
   at("picture").classList.toggle("grounded", isThere);
   if (!isThere) {
     ground.lines = [];
     return;
   }
-  if (!ends) {
+  if (!ends || known !== version) {
     const told = await ask("ground");
     if (!told) return;
+    known = version;
     told.nodes.forEach((/** @type {number} */ node, /** @type {number} */ place) => places.set(node, { node, name: told.names[place],
       x: told.right[place], y: told.down[place], look: ".", isEnd: told.terminals.includes(node), weight: 0 }));
     ends = told.tails.map((/** @type {number} */ tail, /** @type {number} */ place) => [place + 1, tail, told.heads[place]]);
@@ -114,6 +118,22 @@ function linesOf(arcs) {
 export function endsOf({ from, to, aside }) {
   const by = APART * thicker(ground.usual * scale()) / scale();
   return [from, to].map(([x, y]) => [x + by * aside[0], y + by * aside[1]]);
+}
+
+/**
+ * Shows a place elsewhere, with its lines.
+ * @param {number} node
+ * @param {number} x
+ * @param {number} y
+ */
+export function moveOnGround(node, x, y) {
+  const place = places.get(node);
+  if (!place || !isGround()) return;
+  Object.assign(place, { x, y });
+  for (const line of ground.lines.filter(({ tail, head }) => tail === node || head === node)) {
+    const [begin, end] = (line.mark.way === BACK ? [line.head, line.tail] : [line.tail, line.head]).map((it) => places.get(it));
+    Object.assign(line, { from: [begin?.x, begin?.y], to: [end?.x, end?.y] });
+  }
 }
 
 /** @param {Iterable<string>} ids the parts that the picture has */

@@ -19,12 +19,13 @@ let waiting = 0;
 
 /**
  * @typedef {object} Listener
- * @property {(turn: number) => unknown} heard is called when there is a newer state
+ * @property {(turn: number, picture?: number) => unknown} heard is called when there is a newer state, or places of the picture have moved
  * @property {() => unknown} broke is called when the connection breaks; if the board still answers, the browser reconnects
  * @property {() => unknown} lost is called when the board refuses it
  *
- * A message between tabs: who holds the connection? Or, from the tab that holds it: here, a state's number, it broke, this tab was left.
- * @typedef {{ from: string, what: "who" | "here" | "broke" | "left" | number }} Said
+ * A message between tabs: who holds the connection? Or, from the tab that holds it: here, the number of a state and of its picture, it
+ * broke, this tab was left.
+ * @typedef {{ from: string, what: "who" | "here" | "broke" | "left" | [number, number?] }} Said
  */
 
 /** @param {Said["what"]} what */
@@ -42,7 +43,7 @@ export function live(listener) {
     say("here");
   };
   tabs.onmessage = (/** @type {MessageEvent<Said>} */ { data: { from, what } }) => {
-    if (typeof what === "number") listener.heard(what);
+    if (Array.isArray(what)) listener.heard(...what);
     else if (what === "broke") listener.broke();
     if (source) meet(from, what, hold);
     // Timers may be late in a hidden tab, and the board may end meanwhile.
@@ -107,8 +108,9 @@ function connect({ heard, broke, lost }) {
     else broke();
   });
   made.addEventListener("message", ({ data }) => {
-    say(Number(data));
-    heard(Number(data));
+    const told = /** @type {[number, number?]} */ (data.split(" ").map(Number));
+    say(told);
+    heard(...told);
   });
   return made;
 }

@@ -18,8 +18,9 @@ import { markAt, setMarks, shades } from "./legend.js";
 import { isPicked, pickedCount } from "./many.js";
 import { news } from "./messages.js";
 import { paint } from "./painting.js";
-import { ask, noun, present } from "./state.js";
 import { formOf, freePart } from "./room.js";
+import { ask, noun, present } from "./state.js";
+import { now as shown, put } from "./store.js";
 import { beginView, fit, isFitted, reveal, scale, see, seenBox, zoom } from "./view.js";
 
 /** The factor by which a button or a key enlarges it. */
@@ -36,10 +37,7 @@ let labels = [];
 let usual = 1;
 /** @type {Arrow[]} */
 let arrows = [];
-/**
- * The middles of the arcs of the bottleneck, in units of the picture.
- * @type {number[][]}
- */
+/** @type {number[][]} the middles of the arcs of the bottleneck, in units of the picture */
 let limits = [];
 
 /** Returns true if not all arcs are shown. */
@@ -83,12 +81,16 @@ export async function showPicture() {
 
 /**
  * Shows the board's answer, unless another one was requested meanwhile.
- * @param {{ svg: string, reason: string, arcs: any[], has_ground: boolean }} told
+ * @param {{ svg: string, reason: string, arcs: any[], has_ground: boolean, version: number, layout: number, origin: string,
+ *   fixed: string, can_lay_out: boolean, moved: number }} told
  * @param {number} turn
  */
 async function showTold(told, turn) {
-  await lookAtGround(told.has_ground);
+  await lookAtGround(told.has_ground, told.version);
   if (turn !== asked) return;
+  if (told.layout !== shown.drawing.layout) nearShown = "none";
+  put("drawing", { version: told.version, layout: told.layout, near, form, origin: told.origin, fixed: told.fixed,
+    canLayOut: told.can_lay_out, moved: told.moved });
   count = told.arcs.length;
   const where = near && theChoice()?.node ? "the chosen place" : near ? "a place" : "the bottleneck";
   const part = isGround() ? `All ${present().arcs} are drawn. Move in to read their names and numbers. `

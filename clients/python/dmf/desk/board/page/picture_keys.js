@@ -2,7 +2,9 @@
 import { parts } from "./drawing.js";
 import { at } from "./elements.js";
 import { nextPlace } from "./ground.js";
+import { moveByKey, undoMove } from "./moving.js";
 import { choosePart, fitAll, LARGER, partOf, showNear } from "./picture.js";
+import { tidy } from "./tidy.js";
 import { move, reveal, zoom } from "./view.js";
 
 /** The pixels by which a key moves it. */
@@ -49,7 +51,11 @@ async function goFrom(from, way, like) {
 /** @param {KeyboardEvent} event */
 function goByKeys(event) {
   const part = parts().find((it) => it === document.activeElement), way = WAYS[event.key];
-  if (way && event.ctrlKey) {
+  if (way && event.altKey && part?.matches(".node")) {
+    moveByKey(part, way, event.shiftKey);
+  } else if (event.key === "Backspace" && event.altKey) {
+    undoMove();
+  } else if (way && event.ctrlKey) {
     move(way[0] * STEP, way[1] * STEP);
   } else if (way) {
     goFrom(part, way, event.shiftKey ? ".arc" : ".node");
@@ -57,6 +63,8 @@ function goByKeys(event) {
     zoom(event.key === "-" ? 1 / LARGER : LARGER);
   } else if (event.key === "0") {
     fitAll();
+  } else if (event.key === "t" && !event.altKey && !event.ctrlKey && !event.metaKey) {
+    tidy();
   } else if (part && (event.key === "Enter" || event.key === " ")) {
     choosePart(part);
   } else {

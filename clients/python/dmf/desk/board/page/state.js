@@ -24,6 +24,8 @@ import { sentence, upper } from "./words.js";
 /** @type {State | null} */
 let state = null;
 let acting = false, newest = 0;
+/** @type {(version: number) => unknown} */
+let pictureHeard = () => undefined;
 /** How many actions, and displays of a state, have not ended. */
 let pending = 0;
 /** @type {((state: State, before: State | null) => unknown)[]} */
@@ -54,6 +56,11 @@ export const caption = () => state?.unit && `in ${state.unit}` || "";
  */
 export function watch(watcher) {
   watchers.push(watcher);
+}
+
+/** @param {(version: number) => unknown} watcher is called with the number of the picture, which is another one after a place was moved */
+export function watchPicture(watcher) {
+  pictureHeard = watcher;
 }
 
 /**
@@ -195,9 +202,10 @@ export const redo = () => present().at < present().steps.length - 1 && act({ wha
 
 /** Follows the newer states of the board. While this page is acting itself, it updates when that has ended. */
 const follow = () => live({
-  heard: (turn) => {
+  heard: (turn, picture = 0) => {
     newest = turn;
     if (!acting) catchUp();
+    pictureHeard(picture);
   },
   broke: () => acting || renew(),
   lost,

@@ -1,6 +1,8 @@
 /**
  * The view, which is the visible part of the picture: it can be dragged, scaled about a point, and fitted to a box.
  * @typedef {{ x: number, y: number, width: number, height: number }} Box
+ * @typedef {{ move: (right: number, down: number) => unknown, put: () => unknown, drop: () => unknown }} Held something that is dragged
+ *   instead of the view, in pixels from where it was
  */
 import { at } from "./elements.js";
 import { glide, rest } from "./gliding.js";
@@ -14,6 +16,14 @@ let seen = { x: 0, y: 0, width: 1, height: 1 };
 /** @type {Map<number, { x: number, y: number }>} */
 const pointers = new Map();
 let isBegun = false, isDragged = false, wide = 1, high = 1;
+/**
+ * What is dragged instead of the view, and where it was grabbed.
+ * @type {Held | null}
+ */
+let held = null;
+let grabbed = { x: 0, y: 0 };
+/** @type {(event: PointerEvent) => Held | null} */
+let grab = () => null;
 /**
  * The box to which the view was fitted last, if it was not moved since.
  * @type {Box | null}
@@ -166,6 +176,38 @@ export function reveal({ x, y, width, height }) {
   if (Math.hypot(right, down) > SEEN) move(-right, -down);
 }
 
+/** @param {(event: PointerEvent) => Held | null} found returns what a drag that begins there moves, or null if that is the view */
+export function setGrab(found) {
+  grab = found;
+}
+
+/** Puts what is dragged back where it was. Returns false if nothing is dragged. */
+export function dropHeld() {
+  const dropped = held;
+  held = null;
+  if (isDragged) dropped?.drop();
+  return Boolean(dropped) && isDragged;
+}
+
+/** @param {PointerEvent} event */
+function pressed(event) {
+  if (!pointers.size) isDragged = false;
+  if (event.button !== 0) return;
+  // Two fingers scale the view.
+  dropHeld();
+  held = pointers.size ? null : grab(event);
+  grabbed = { x: event.x, y: event.y };
+  pointers.set(event.pointerId, grabbed);
+}
+
+/** @param {PointerEvent} event */
+function released(event) {
+  pointers.delete(event.pointerId);
+  const put = held;
+  held = null;
+  if (isDragged) put?.put();
+}
+
 /** @param {PointerEvent} event */
 function dragged(event) {
   const before = pointers.get(event.pointerId);
@@ -175,6 +217,7 @@ function dragged(event) {
   const other = [...pointers].find(([id]) => id !== event.pointerId)?.[1];
   const apart = (/** @type {{ x: number, y: number }} */ one) => other ? Math.max(1, Math.hypot(one.x - other.x, one.y - other.y)) : 1;
   if (other) zoom(apart(event) / apart(before), other, true);
+  else if (held) held.move(event.x - grabbed.x, event.y - grabbed.y);
   else move(before.x - event.x, before.y - event.y, true);
   pointers.set(event.pointerId, { x: event.x, y: event.y });
 }
@@ -187,13 +230,13 @@ export function beginView(tell, reshape) {
   told = tell;
   reshaped = reshape;
   const host = at("picture");
-  host.addEventListener("pointerdown", (event) => {
-    if (!pointers.size) isDragged = false;
-    if (event.button === 0) pointers.set(event.pointerId, { x: event.x, y: event.y });
-  });
+  host.addEventListener("pointerdown", pressed);
   host.addEventListener("pointermove", dragged);
-  addEventListener("pointerup", (event) => pointers.delete(event.pointerId));
-  addEventListener("pointercancel", (event) => pointers.delete(event.pointerId));
+  addEventListener("pointerup", released);
+  addEventListener("pointercancel", (event) => {
+    dropHeld();
+    pointers.delete(event.pointerId);
+  });
   host.addEventListener("click", (event) => isDragged && event.stopImmediatePropagation(), true);
   host.addEventListener("wheel", (event) => {
     event.preventDefault();

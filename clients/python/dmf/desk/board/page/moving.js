@@ -1,0 +1,200 @@
+/**
+ * Places of a drawn picture that are moved by hand, with the pointer or by keys. Their lines follow, and the board keeps where they lie.
+ * @typedef {import("./view.js").Held} Held
+ * @typedef {{ node: number, name: string, x: number, y: number, to: (x: number, y: number) => void }} Carried a place that is being moved,
+ *   where it was, and a function that shows it elsewhere
+ */
+import { theChoice } from "./choice.js";
+import { parts } from "./drawing.js";
+import { at, onClick } from "./elements.js";
+import { moveOnGround } from "./ground.js";
+import { news } from "./messages.js";
+import { isFar, paint } from "./painting.js";
+import { partOf, showPicture } from "./picture.js";
+import { ask, watchPicture } from "./state.js";
+import { now, watch } from "./store.js";
+import { dropHeld, reveal, scale, setGrab } from "./view.js";
+import { sentence } from "./words.js";
+
+/** How far a key moves a place, and with Shift, in pixels; and how long keys rest before the board is told, in milliseconds. */
+const STEP = 20, FINE = 2, REST = 400;
+/**
+ * Where places were before they were moved on this page, the latest last.
+ * @type {{ node: number, name: string, x: number, y: number }[]}
+ */
+const before = [];
+/**
+ * Where places lie that were put there, until the board's picture shows it.
+ * @type {Map<number, number[]>}
+ */
+const flying = new Map();
+/** The latest move that was sent. */
+let latest = Promise.resolve();
+/**
+ * The place that keys move, and where it lies now.
+ * @type {{ place: Carried, x: number, y: number } | null}
+ */
+let keyed = null;
+let resting = 0;
+
+/** @param {string | null} text the numbers in a path or in a list of points */
+const pointsIn = (text) => {
+  const numbers = (text?.match(/-?[\d.]+(?:e-?\d+)?/g) ?? []).map(Number);
+  return numbers.filter((_, place) => place % 2 === 0).map((x, place) => [x, numbers[2 * place + 1]]);
+};
+
+/**
+ * Returns how far along a curve its points are, from 0 to 1, so that a straight line stays one.
+ * @param {number[][]} curve
+ */
+function alongOf(curve) {
+  const ways = curve.map(([x, y], place) => Math.hypot(x - curve[Math.max(place - 1, 0)][0], y - curve[Math.max(place - 1, 0)][1]));
+  const whole = ways.reduce((sum, way) => sum + way, 0) || 1;
+  let sum = 0;
+  return ways.map((way) => (sum += way) / whole);
+}
+
+/**
+ * Returns a function that bends a line, one or both of whose ends are moved.
+ * @param {SVGElement} part
+ * @param {number} node
+ */
+function bending(part, node) {
+  const [isTail, isHead] = (part.dataset.ends ?? "").split(" ").map((end) => Number(end) === node);
+  const paths = [...part.querySelectorAll("path")], curve = pointsIn(paths[0]?.getAttribute("d")), head = part.querySelector("polygon");
+  const corners = pointsIn(head?.getAttribute("points") ?? "");
+  const share = (/** @type {number} */ along) => (isTail ? 1 - along : 0) + (isHead ? along : 0), shares = alongOf(curve).map(share);
+  return (/** @type {number} */ right, /** @type {number} */ down) => {
+    const shifted = (/** @type {number[]} */ [x, y], /** @type {number} */ by) => `${x + by * right},${y + by * down}`;
+    const [begin, ...others] = curve.map((point, place) => shifted(point, shares[place]));
+    for (const path of paths) path.setAttribute("d", `M${begin}C${others.join(" ")}`);
+    head?.setAttribute("points", corners.map((corner) => shifted(corner, share(0.5))).join(" "));
+    part.classList.toggle("bent", Boolean(right || down));
+  };
+}
+
+/**
+ * Returns a place that is going to be moved.
+ * @param {SVGElement} part
+ * @returns {Carried}
+ */
+function carry(part) {
+  const oval = part.querySelector("ellipse.inner"), node = Number(part.id.slice("node-".length));
+  const drawn = ["cx", "cy"].map((name) => Number(oval?.getAttribute(name))), [x, y] = flying.get(node) ?? drawn;
+  const lines = parts().filter((it) => it.dataset.ends?.split(" ").includes(String(node))).map((it) => bending(it, node));
+  return { node, name: part.querySelector("text")?.textContent ?? "", x, y, to: (toX, toY) => {
+    const [right, down] = [toX - drawn[0], toY - drawn[1]];
+    if (right || down) part.setAttribute("transform", `translate(${right} ${down})`);
+    else part.removeAttribute("transform");
+    for (const bend of lines) bend(right, down);
+    moveOnGround(node, toX, toY);
+    paint();
+  } };
+}
+
+/**
+ * Tells the board where a place lies now. If it refuses, the place lies where it was.
+ * @param {Carried} place
+ * @param {number} x
+ * @param {number} y
+ * @param {boolean} isUndone whether this takes a move back
+ */
+async function send(place, x, y, isUndone) {
+  const [right, down] = [x, y].map((it) => Math.round(100 * it));
+  flying.set(place.node, [x, y]);
+  const told = await ask("move", { node: place.node, right, down, form: now.drawing.form });
+  if (!told) {
+    flying.delete(place.node);
+    place.to(place.x, place.y);
+    return;
+  }
+  if (!isUndone) before.push({ node: place.node, name: place.name, x: place.x, y: place.y });
+  news(`${place.name} ${isUndone ? "lies where it was before" : "was moved"}.${told.kept ? ` ${told.kept} keeps it.` : ""}`);
+  showUndo();
+  await showPicture();
+  flying.delete(place.node);
+}
+
+/** @type {typeof send} */
+function put(...move) {
+  latest = send(...move);
+  return latest;
+}
+
+function showUndo() {
+  at("undo-move").hidden = !before.length;
+}
+
+/** Takes the latest move on this page back. */
+export async function undoMove() {
+  await (putKeyed() ?? latest);
+  const last = before.pop();
+  if (last) await put({ ...last, to: () => undefined }, last.x, last.y, true);
+}
+
+/** Tells the board where keys have moved a place to. */
+function putKeyed() {
+  clearTimeout(resting);
+  const moved = keyed;
+  keyed = null;
+  return moved && put(moved.place, moved.x, moved.y, false);
+}
+
+/**
+ * Moves a place by a key. The board is told when the keys rest.
+ * @param {SVGGElement} part
+ * @param {[number, number]} way
+ * @param {boolean} isFine
+ */
+export function moveByKey(part, [right, down], isFine) {
+  const { fixed } = now.drawing;
+  if (fixed) {
+    news(sentence(fixed));
+    return;
+  }
+  if (keyed && keyed.place.node !== Number(part.id.slice("node-".length))) putKeyed();
+  const { place, x, y } = keyed ?? { place: carry(part), x: 0, y: 0 }, by = (isFine ? FINE : STEP) / scale();
+  keyed = keyed ? { place, x: x + by * right, y: y + by * down } : { place, x: place.x + by * right, y: place.y + by * down };
+  place.to(keyed.x, keyed.y);
+  reveal(part.getBBox());
+  clearTimeout(resting);
+  resting = setTimeout(putKeyed, REST);
+}
+
+/**
+ * Returns the place that a drag moves, if it begins on one. A finger moves the selected place alone, and else the view.
+ * @param {PointerEvent} event
+ * @returns {Held | null}
+ */
+function grab(event) {
+  const part = event.target instanceof Element ? /** @type {SVGElement | null} */ (event.target.closest("#picture g.node")) : null;
+  if (!part || now.drawing.fixed || isFar() || event.pointerType === "touch" && part !== partOf(theChoice())) return null;
+  putKeyed();
+  const place = carry(part);
+  let [x, y] = [place.x, place.y];
+  return {
+    move: (right, down) => {
+      [x, y] = [place.x + right / scale(), place.y + down / scale()];
+      place.to(x, y);
+    },
+    put: () => put(place, x, y, false),
+    drop: () => place.to(place.x, place.y),
+  };
+}
+
+export function beginMoving() {
+  setGrab(grab);
+  watch("drawing", ({ fixed, layout }, old) => {
+    at("picture").classList.toggle("movable", !fixed);
+    // In another layout places lie elsewhere.
+    if (layout !== old.layout) before.length = 0;
+    showUndo();
+  });
+  watchPicture((version) => {
+    if (!flying.size && version !== now.drawing.version) showPicture();
+  });
+  onClick("undo-move", undoMove);
+  document.addEventListener("keydown", (event) => {
+    if (event.key === "Escape" && dropHeld()) event.preventDefault();
+  }, true);
+}

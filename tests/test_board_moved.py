@@ -1,0 +1,409 @@
+"""Places of a drawn picture that are moved by hand: by the pointer and by keys, kept in a project,
+the same in all tabs, and laid out anew."""
+
+from __future__ import annotations
+
+import errno
+import json
+import shutil
+import time
+from pathlib import Path
+from typing import Any
+
+import pytest
+from board_pages import Page, set_width
+from board_running import Board as Running
+from board_running import board
+from desk_shared import PIPES, ROOT
+from dmf.desk.board.routes import Board
+from dmf.desk.project.opener import project_desk
+from dmf.desk.project.scenarios import project_of
+from dmf.desk.project.storage import ProjectFile
+from project_shared import water_project
+from test_board_access import as_before, show
+from test_board_ground import city
+from test_board_view import grid_table, spots
+
+pytestmark = pytest.mark.seconds(20)
+ALT, SHIFT, ESCAPE, BACKSPACE = "\ue00a", "\ue008", "\ue00c", "\ue003"
+RIGHT, DOWN = "\ue014", "\ue015"
+Spots = dict[str, tuple[str, str]]
+# How many pixels a unit of the picture has.
+SCALE = "return document.querySelector('#picture svg').getScreenCTM().a"
+# The middles of places in the picture of a page, by their parts.
+MIDDLES = """
+return Object.fromEntries([...document.querySelectorAll("#picture .node")].map((it) => {
+  const oval = it.querySelector("ellipse.inner");
+  return [it.id, [oval.getAttribute("cx"), oval.getAttribute("cy")]];
+}));
+"""
+# The ends of the lines at a place, on the screen: for each that at the place, and the other one.
+ENDS = """
+const node = arguments[0];
+return [...document.querySelectorAll("#picture .arc")].flatMap((part) => {
+  const ends = part.dataset.ends.split(" "), path = part.querySelector("path:not(.wide)");
+  if (!ends.includes(node)) return [];
+  const at = (long) => path.getPointAtLength(long).matrixTransform(path.getScreenCTM());
+  const [tail, head] = [at(0), at(path.getTotalLength())].map(({ x, y }) => [x, y]);
+  return [ends[0] === node ? [tail, head] : [head, tail]];
+});
+"""
+
+
+def node_of(it: Running, name: str) -> int:
+    return int(it.told(f"find?text={name}")["found"][0]["node"])
+
+
+def moved_by(before: Spots, now: Spots) -> dict[str, Any]:
+    """How far places have moved to the right and downwards, of those that have."""
+    return {
+        part: (float(x) - float(before[part][0]), float(y) - float(before[part][1]))
+        for part, (x, y) in now.items()
+        if (x, y) != before[part]
+    }
+
+
+def move(it: Running, node: int, right: float, down: float) -> Any:
+    """Puts a place somewhere by a request."""
+    words = {"right": round(100 * right), "down": round(100 * down), "form": 0}
+    return json.loads(it.post("move", node=node, **words)[1])
+
+
+def project(folder: Path) -> Path:
+    shutil.copy(ROOT / PIPES, folder / "pipes.csv")
+    return folder / "pipes.dmf.json"
+
+
+def journal(path: Path) -> list[Any]:
+    return [*map(json.loads, path.with_name("pipes.dmf.journal").read_text().splitlines())]
+
+
+def test_dragged(driver: Any, tmp_path: Path) -> None:
+    """A place follows the pointer with the ends of its lines, and stays where it is put, also at a
+    step; this is on the disk before the page says so. The move is taken back alone."""
+    path = project(tmp_path)
+    with board("--keep", str(tmp_path / "pipes.csv")) as it:
+        show(driver, 1280, "light")
+        page = Page(driver, it.address)
+        mill, before = node_of(it, "Mill"), spots(it)
+        lines = driver.execute_script(ENDS, str(mill))
+        scale = driver.execute_script(SCALE)
+        oval = driver.find_element("css selector", f"#node-{mill} ellipse.inner")
+        page.actions().move_to_element(oval).click_and_hold().move_by_offset(50, 5).move_by_offset(
+            20, -45
+        ).perform()
+        bent = driver.execute_script(ENDS, str(mill))
+        assert len(bent) == len(lines) == 4
+        for (own, other), (own_now, other_now) in zip(lines, bent):
+            assert other_now == pytest.approx(other, abs=0.1)
+            assert own_now == pytest.approx([own[0] + 70, own[1] - 40], abs=0.1)
+        assert spots(it) == before and not any("moved" in line for line in journal(path))
+        page.actions().release().perform()
+        page.wait(lambda: page.text("#news") == "Mill was moved. pipes.dmf.json keeps it.")
+        assert [*journal(path)[-1]["moved"]] == ["Mill"]
+        page.wait(lambda: not driver.find_elements("css selector", "#picture .bent"))
+        moved = moved_by(before, spots(it))
+        assert moved == {f"node-{mill}": pytest.approx((70 / scale, -40 / scale), abs=0.02)}
+        assert driver.execute_script(MIDDLES) == {it: [*at] for it, at in spots(it).items()}
+        assert page.text("#what h3") == "", "a drag is no click"
+        page.choose("arc-3", "North rise")
+        page.after(lambda: page.press("Close it"))
+        assert moved_by(before, spots(it)) == moved
+        page.press("Undo the move")
+        page.wait(
+            lambda: page.text("#news") == "Mill lies where it was before. "
+            "pipes.dmf.json keeps it."
+        )
+        assert spots(it) == before and journal(path)[-1]["moved"] == {"Mill": None}
+        assert it.state()["at"] == 1, "no step was undone"
+        assert not driver.find_element("id", "undo-move").is_displayed()
+        as_before(driver)
+
+
+def test_dropped(driver: Any) -> None:
+    """Escape puts a place back that is being dragged, and so does a second finger. A finger that
+    begins on a place moves the picture, unless the place is selected."""
+    with board(PIPES) as it:
+        page = Page(driver, it.address)
+        before, mill = spots(it), node_of(it, "Mill")
+        oval = driver.find_element("css selector", f"#node-{mill} ellipse.inner")
+        ends = driver.execute_script(ENDS, str(mill))
+        page.actions().move_to_element(oval).click_and_hold().move_by_offset(40, 40).perform()
+        assert driver.execute_script(ENDS, str(mill)) != ends
+        page.actions().send_keys(ESCAPE).perform()
+        assert driver.execute_script(ENDS, str(mill)) == ends
+        page.actions().move_by_offset(10, 0).release().perform()
+        box = "return document.querySelector('#picture svg').getAttribute('viewBox')"
+        seen = driver.execute_script(box)
+        touch(driver, oval, 30)
+        assert driver.execute_script(box) != seen and spots(it) == before
+        page.choose(f"node-{mill}", "Mill")
+        seen = driver.execute_script(box)
+        touch(driver, driver.find_element("css selector", f"#node-{mill} ellipse.inner"), 30)
+        page.wait(lambda: page.text("#news") == "Mill was moved.")
+        assert [*moved_by(before, spots(it))] == [f"node-{mill}"]
+        assert driver.execute_script(box) == seen
+        driver.get("about:blank")
+
+
+def touch(driver: Any, element: Any, by: int) -> None:
+    """Drags by a finger, downwards."""
+    box = element.rect
+    x, y = box["x"] + box["width"] / 2, box["y"] + box["height"] / 2
+    for kind, down in ("touchStart", 0), ("touchMove", by / 2), ("touchMove", by), ("touchEnd", -1):
+        points = [{"x": x, "y": y + down}] if down >= 0 else []
+        driver.execute_cdp_cmd("Input.dispatchTouchEvent", {"type": kind, "touchPoints": points})
+
+
+def test_keys(driver: Any) -> None:
+    """Alt and arrow keys move the place that has the focus, by 20 pixels, or with Shift by 2; keys
+    one after the other are one move. Alt and Backspace takes it back. The focus stays."""
+    with board(PIPES) as it:
+        show(driver, 1280, "light")
+        page = Page(driver, it.address)
+        before, mill = spots(it), node_of(it, "Mill")
+        scale = driver.execute_script(SCALE)
+        driver.execute_script("document.getElementById(arguments[0]).focus()", f"node-{mill}")
+        page.actions().key_down(ALT).send_keys(RIGHT, RIGHT, DOWN).key_down(SHIFT).send_keys(
+            DOWN
+        ).key_up(SHIFT).key_up(ALT).perform()
+        page.wait(lambda: page.text("#news") == "Mill was moved.")
+        assert moved_by(before, spots(it)) == {
+            f"node-{mill}": pytest.approx((40 / scale, 22 / scale), abs=0.02)
+        }
+        assert driver.switch_to.active_element.get_attribute("id") == f"node-{mill}"
+        page.actions().key_down(ALT).send_keys(BACKSPACE).key_up(ALT).perform()
+        page.wait(lambda: page.text("#news") == "Mill lies where it was before.")
+        assert spots(it) == before
+        as_before(driver)
+
+
+def test_tabs(driver: Any) -> None:
+    """All tabs show a place where it was moved, also those of another form: they all have the
+    picture in which it was moved."""
+    with board(PIPES) as it:
+        show(driver, 1280, "light")
+        page, first = Page(driver, it.address), driver.current_window_handle
+        driver.switch_to.new_window("tab")
+        set_width(driver, 400)
+        other = Page(driver, it.address)
+        assert driver.execute_script(MIDDLES) != {it: [*at] for it, at in spots(it).items()}
+        assert "error" not in move(it, node_of(it, "Mill"), 300, -50)
+        now = {it: [*at] for it, at in spots(it).items()}
+        assert now[f"node-{node_of(it, 'Mill')}"] == ["300", "-50"]
+        other.wait(lambda: driver.execute_script(MIDDLES) == now)
+        driver.close()
+        driver.switch_to.window(first)
+        page.wait(lambda: driver.execute_script(MIDDLES) == now)
+        as_before(driver)
+
+
+def test_kept(tmp_path: Path) -> None:
+    """What was moved lies there when the project is opened again, in each window; other positions
+    are as they were laid out. What a desk may only read is not moved."""
+    path = project(tmp_path)
+    with board("--keep", str(tmp_path / "pipes.csv")) as it:
+        before, mill = spots(it), node_of(it, "Mill")
+        assert move(it, mill, 300, -50) == {"turn": it.turn(), "told": "", "kept": path.name}
+        assert it.end() == 130
+    content = json.loads(path.read_text())
+    assert (content["positions_from"], content["moved"]) == ("drawing", {"Mill": [300, 50]})
+    home = content["positions"]["Mill"]
+    assert home == pytest.approx(
+        [float(before[f"node-{mill}"][0]), -float(before[f"node-{mill}"][1])], abs=0.01
+    )
+    with board(str(path)) as it:
+        assert spots(it) == {**before, f"node-{mill}": ("300", "-50")}
+        told = it.told("picture?near=&form=60")
+        assert (told["moved"], told["fixed"]) == (1, "")
+        with board(str(path)) as other:
+            assert spots(other) == spots(it)
+            assert other.told("picture?near=")["fixed"]
+            assert "another desk has it open" in move(other, mill, 0, 0)["error"]
+        assert move(it, mill, home[0], -home[1])["kept"] == path.name
+        assert it.end() == 130
+    assert "moved" not in json.loads(path.read_text())
+
+
+def test_kept_later(tmp_path: Path) -> None:
+    """Where places lie is kept too if a project is made after they were moved."""
+    path = project(tmp_path)
+    with board(str(tmp_path / "pipes.csv")) as it:
+        spots(it)
+        assert move(it, node_of(it, "Mill"), 300, -50)["kept"] == ""
+        now = spots(it)
+        it.do(what="keep")
+        assert spots(it) == now
+        assert journal(path)[-1]["moved"] == {"Mill": [300, 50]}
+        assert it.end() == 130
+    with board(str(path)) as it:
+        assert spots(it) == now
+
+
+def test_map_is_not_moved(driver: Any, tmp_path: Path) -> None:
+    """On a map no place is moved, neither in a project that has its positions later: a drag moves
+    the picture. A project of an older version does not say whether it has a map, so none is moved
+    there until its places are laid out anew."""
+    with board("--keep", *city(tmp_path, 7)) as it:
+        page = Page(driver, it.address)
+        before, (part, *_) = spots(it), driver.find_elements("css selector", "#picture .node")
+        name = part.get_attribute("id")
+        oval = part.find_element("css selector", "ellipse.inner")
+        page.actions().move_to_element(oval).click_and_hold().move_by_offset(
+            -20, 30
+        ).release().perform()
+        assert moved_by(before, spots(it)) == {}
+        assert not driver.find_element("id", "tidy").is_displayed()
+        told = move(it, int(name.removeprefix("node-")), 1, 1)
+        assert told["error"] == "places lie as on the map, where none is moved"
+        driver.get("about:blank")
+        assert it.end() == 130
+    path = tmp_path / "city.dmf.json"
+    with board(str(path)) as it:
+        assert not it.told("picture?near=")["can_lay_out"] and spots(it) == before
+        assert it.end() == 130
+    content = json.loads(path.read_text())
+    assert content.pop("positions_from") == "map"
+    path.write_text(json.dumps(content))
+    with board(str(path)) as it:
+        told = it.told("picture?near=")
+        assert (told["origin"], told["can_lay_out"]) == ("", True)
+        assert "perhaps as on a map" in told["fixed"]
+        assert spots(it) == before
+        it.post("tidy", near="", form=100)
+        while json.loads(it.post("tidied")[1])["is_laying_out"]:
+            time.sleep(0.05)
+        assert it.told("picture?near=")["fixed"] == "" and spots(it) != before
+        assert it.end() == 130
+    assert json.loads(path.read_text())["positions_from"] == "drawing"
+
+
+def test_not_written(tmp_path: Path, monkeypatch: pytest.MonkeyPatch) -> None:
+    """A move that cannot be written did not happen, and the next one is right."""
+    desk = water_project(tmp_path)
+    made = Board(desk)
+
+    def picture() -> Any:
+        return json.loads(made.get("picture", {"near": ""}).body)
+
+    def move_mill(right: int) -> tuple[int, Any]:
+        node = desk.network.names.place("Mill").entry
+        said = {"node": node, "right": right, "down": 0, "form": 0, "turn": desk.turn}
+        answer = made.post("move", said)
+        return answer.status, json.loads(answer.body)
+
+    def fail(*_: object) -> None:
+        raise OSError(errno.ENOSPC, "No space left on device")
+
+    before = picture()
+    with monkeypatch.context() as patch:
+        patch.setattr(ProjectFile, "write", fail)
+        status, told = move_mill(100)
+    assert status == 409 and told["error"].endswith("kept.dmf.json: No space left on device")
+    assert picture() == before and project_of(desk).project.moved == {}
+    assert move_mill(200)[0] == 200
+    assert project_of(desk).project.moved == {"Mill": (2, 0)}
+    assert move_mill(10**400)[1]["error"] == "Mill would lie too far away"
+    desk.end()
+
+
+def test_made_places(tmp_path: Path) -> None:
+    """A place that a step has made lies where it was moved when it is made again, whatever node it
+    has; another one that gets its node does not."""
+    desk = water_project(tmp_path)
+    made = Board(desk)
+
+    def spot(name: str) -> tuple[float, float]:
+        json.loads(made.get("picture", {"near": ""}).body)
+        return made.shown.placement.places.seen[desk.network.names.place(name).entry]
+
+    def ask(path: str, **content: object) -> None:
+        answer = made.post(path, {**content, "turn": desk.turn})
+        assert answer.status == 200, answer.body
+
+    def add(name: str) -> None:
+        mill = desk.network.names.place("Mill").entry
+        ask("do", what="add-new", tail=mill, head=name, capacity="5", name="")
+
+    add("New Town")
+    node, laid_out = desk.network.names.place("New Town").entry, spot("New Town")
+    ask("move", node=node, right=12345, down=-6789, form=0)
+    assert spot("New Town") == (123.45, 67.89) != laid_out
+    desk.undo()
+    add("Hill")
+    assert desk.network.names.place("Hill").entry == node and spot("Hill") != (123.45, 67.89)
+    add("New Town")
+    assert spot("New Town") == (123.45, 67.89)
+    desk.end()
+    again = project_desk(str(tmp_path / "kept.dmf.json"))
+    made, desk = Board(again), again
+    assert spot("New Town") == (123.45, 67.89)
+    desk.end()
+
+
+@pytest.mark.parametrize("does", [False, True])
+def test_tidy(driver: Any, does: bool) -> None:
+    """What was moved is taken back after a question, and the picture is as a new board lays it out
+    for this window. Where nothing was moved, nothing is asked."""
+    with board(PIPES) as it, board(PIPES) as fresh:
+        show(driver, 768, "light")
+        page = Page(driver, it.address)
+        wanted = laid_out(page, fresh)
+        page.press("Tidy")
+        page.wait(lambda: page.text("#news") == "The picture is laid out anew.")
+        assert driver.execute_script(MIDDLES) == wanted
+        move(it, node_of(it, "Mill"), 300, -50)
+        move(it, node_of(it, "Market"), 400, -50)
+        moved = {part: [*at] for part, at in spots(it).items()}
+        page.wait(lambda: driver.execute_script(MIDDLES) == moved)
+        page.choose("arc-9", "Mill Lane")
+        wanted = laid_out(page, fresh)
+        driver.find_element("id", "picture").send_keys("t")
+        alert = driver.switch_to.alert
+        assert alert.text.startswith("The 2 places that you moved will lie where the picture puts")
+        if does:
+            alert.accept()
+            page.wait(lambda: driver.execute_script(MIDDLES) == wanted)
+            assert it.told("picture?near=")["moved"] == 0
+        else:
+            alert.dismiss()
+            assert driver.execute_script(MIDDLES) == moved
+        assert page.text("#what h3") == "Mill Lane"
+        as_before(driver)
+
+
+def laid_out(page: Page, fresh: Running) -> dict[str, list[str]]:
+    """Where a new board lays out the places for the window of a page."""
+    script = "const tell = arguments[0]; import('./room.js').then((it) => tell(it.formOf()))"
+    form = page.driver.execute_async_script(script)
+    return {part: [*at] for part, at in spots(fresh, f"&form={form}").items()}
+
+
+def test_tidy_beside(tmp_path: Path) -> None:
+    """A network of 2,112 arcs is laid out as a whole while the board answers, and steps go on; then
+    all of it is shown, no place on another. A move meanwhile stops it."""
+    with board(grid_table(tmp_path, 33)) as it:
+        spots(it)
+        assert not it.told("picture?near=")["has_ground"]
+        begun = time.monotonic()
+        assert it.post("tidy", near="", form=140)[0] == 200
+        assert json.loads(it.post("tidied")[1])["is_laying_out"]
+        it.do(what="close", arc=5)
+        assert it.state()["at"] == 1 and time.monotonic() - begun < 1.5
+        while json.loads(it.post("tidied")[1])["is_laying_out"]:
+            time.sleep(0.05)
+        told = it.told("picture?near=")
+        assert told["has_ground"] and not told["fixed"]
+        ground = it.told("ground")
+        assert len(ground["nodes"]) == 33 * 33 + 2
+        middles = sorted(zip(ground["right"], ground["down"]))
+        for at, (x, y) in enumerate(middles):
+            for other_x, other_y in middles[at + 1 : at + 40]:
+                assert abs(other_x - x) > 5 or abs(other_y - y) > 5
+        it.post("tidy", near="", form=140)
+        move(it, ground["nodes"][0], ground["right"][0] + 10, ground["down"][0])
+        told = {"is_laying_out": True}
+        while told.get("is_laying_out"):
+            told = json.loads(it.post("tidied")[1])
+        assert told["error"] == "a place was moved meanwhile, so the picture stays as it is"
+        assert it.told("ground")["right"][0] == pytest.approx(ground["right"][0] + 10, abs=0.01)
