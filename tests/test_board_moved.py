@@ -407,3 +407,56 @@ def test_tidy_beside(tmp_path: Path) -> None:
             told = json.loads(it.post("tidied")[1])
         assert told["error"] == "a place was moved meanwhile, so the picture stays as it is"
         assert it.told("ground")["right"][0] == pytest.approx(ground["right"][0] + 10, abs=0.01)
+
+
+# Lets a page hear that a layout is done once `goOn` is called.
+HELD = """
+const { fetch } = window;
+const released = new Promise((resolve) => { window.goOn = resolve; });
+window.fetch = async (path, ...rest) => {
+  if (path === "tidied") await released;
+  return fetch(path, ...rest);
+};
+"""
+# Where the middle of a line is on the screen.
+LINE = """
+const path = document.querySelector(`#${arguments[0]} path:not(.wide)`);
+const box = path?.getBoundingClientRect();
+return box ? [box.x + box.width / 2, box.y + box.height / 2] : [];
+"""
+
+
+def test_all_laid_out(driver: Any, tmp_path: Path) -> None:
+    """A network with more arcs than a picture has is laid out by itself as a whole, up to 3,000
+    arcs, and shown when that is done; meanwhile a part is shown, and steps go on. A selection in a
+    view that was moved stays where it is seen."""
+    with board(grid_table(tmp_path, 22)) as it:
+        show(driver, 1280, "light")
+        held = driver.execute_cdp_cmd("Page.addScriptToEvaluateOnNewDocument", {"source": HELD})[
+            "identifier"
+        ]
+        page = Page(driver, it.address)
+        assert "300 of 968" in page.text("#drawn-note")
+        arc = it.state()["limit"][0]
+        page.choose(f"arc-{arc['number']}", arc["short"])
+        page.press("What is chosen")
+        page.press("Smaller")
+        before, scale = driver.execute_script(LINE, f"arc-{arc['number']}"), driver.execute_script(
+            SCALE
+        )
+        assert it.do(what="close", arc=1)["at"] == 1
+        page.wait(lambda: "close" in page.text("#way"))
+        driver.execute_script("goOn()")
+        page.wait(lambda: "All 968 are drawn" in page.text("#drawn-note"))
+        assert driver.execute_script(SCALE) == pytest.approx(scale, rel=1e-3)
+        assert driver.execute_script(LINE, f"arc-{arc['number']}") == pytest.approx(before, abs=1)
+        assert page.text("#what h3") == arc["short"]
+        assert len(it.told("ground")["nodes"]) == 22 * 22 + 2
+        # Once only.
+        version = it.told("picture?near=")["version"]
+        driver.execute_cdp_cmd("Page.removeScriptToEvaluateOnNewDocument", {"identifier": held})
+        driver.refresh()
+        page.ready()
+        page.wait(lambda: "All 968 are drawn" in page.text("#drawn-note"))
+        assert it.told("picture?near=")["version"] == version
+        as_before(driver)

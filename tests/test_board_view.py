@@ -48,6 +48,12 @@ return [...document.querySelectorAll("#picture .unlabelled")].filter((part) => {
     it.left > right || it.right < left || it.top > bottom || it.bottom < top);
 }).map((part) => part.id);
 """
+# A point of the picture on which no part lies, from the middle of the window.
+FREE = """
+const at = [...Array(40).keys()].map((it) => [it * 7 - 140, it % 2 ? 40 : -40]);
+return at.find(([x, y]) =>
+  !document.elementFromPoint(innerWidth / 2 + x, innerHeight / 2 + y).closest(".node, .arc"));
+"""
 NAMELESS_ENDS = """
 return [...document.querySelectorAll("#picture .node.unlabelled")].filter((part) =>
   part.querySelectorAll("ellipse:not(.halo)").length > 1).map((part) => part.id);
@@ -166,7 +172,7 @@ def is_in(page: Page, what: str) -> bool:
     return min(seen(page, what)[:4]) >= -1
 
 
-@pytest.mark.parametrize("side", [0, 7, 22])
+@pytest.mark.parametrize("side", [0, 7, 40])
 def test_view(driver: Any, tmp_path: Path, side: int) -> None:
     """At each width the sink is seen, labels are at least 11 pixels high, and the picture is
     dragged, made larger and fitted, by the mouse, by buttons and by keys; a click still chooses."""
@@ -253,9 +259,10 @@ def judge_moves(page: Page, sink: str) -> None:
     page.click("#fit-all")
     assert is_in(page, sink)
     right, down, *_, wide = seen(page, sink)
-    page.actions().move_to_element_with_offset(host, -40, -40).click_and_hold().move_by_offset(
-        -30, 25
-    ).release().perform()
+    # A drag that begins on a place moves the place.
+    page.actions().move_to_element_with_offset(
+        host, *page.driver.execute_script(FREE)
+    ).click_and_hold().move_by_offset(-30, 25).release().perform()
     left, lower, *_ = seen(page, sink)
     assert (round(left - right), round(lower - down)) == (-30, 25)
     assert page.text("#what h3") == "", "a drag is no click"
@@ -357,9 +364,9 @@ def test_view_stays(driver: Any) -> None:
 
 
 def test_show_near(driver: Any, tmp_path: Path) -> None:
-    """Past what can be drawn, what is found by name, without case and accents, is shown with what
-    lies around it."""
-    with board(grid_table(tmp_path, 32)) as it:
+    """Past what can be drawn or laid out, what is found by name, without case and accents, is shown
+    with what lies around it."""
+    with board(grid_table(tmp_path, 40)) as it:
         page = Page(driver, it.address)
         assert "300 of " in page.text("#drawn-note")
         page.write("#text", "RIGHT 30 2")

@@ -180,6 +180,11 @@ class Placement:
     # The layout of all places from the beginning.
 
     @property
+    def is_new(self) -> bool:
+        """Return True if no position was known at first, and no place was moved."""
+        return self._is_laid_out and self.can_lay_out
+
+    @property
     def can_lay_out(self) -> bool:
         """Return True if places can be laid out anew."""
         return not self._why_not_laid_out
@@ -189,8 +194,13 @@ class Placement:
         of pages. Raise a `DeskFault` if the project could not keep it, or on a map."""
         if self._why_not_laid_out:
             raise DeskFault(self._why_not_laid_out)
+        form = _known_form(form)
+        going = self._run
+        if going and (going.version, going.found.form) == (self.version, form / 100):
+            # Another tab has begun it.
+            return
         picture = Picture(self._desk)
-        picture.places.form = _known_form(form) / 100
+        picture.places.form = form / 100
         self._run = picture.begin_layout(arcs, nodes, self.version)
 
     def is_laying_out(self) -> bool:

@@ -95,6 +95,11 @@ class Shown:
             "origin": self.placement.origin,
             "fixed": self.placement.why_fixed,
             "can_lay_out": self.placement.can_lay_out,
+            # All of a network that no picture can have is laid out by itself, and shown then.
+            "can_draw_all": bool(svg)
+            and not has_ground
+            and self.placement.is_new
+            and len(arcs) < len(self.desk.network.pictured()) <= MOST_LAID_OUT,
             "moved": len(self.placement.moved),
         }
 

@@ -18,6 +18,12 @@ let written = new Map();
 export const parts = () => [...at("picture").querySelectorAll("g")].filter((group) => group.matches(".node, .arc"));
 
 /**
+ * Returns the part of the picture that shows an arc or a place.
+ * @param {import("./choice.js").Choice | null} choice
+ */
+export const partOf = (choice) => parts().find((part) => part.id === (choice?.arc ? `arc-${choice.arc}` : `node-${choice?.node}`));
+
+/**
  * Returns the element of a drawing, or null if the text is empty.
  * @param {string} text
  * @returns {Box | null}

@@ -5,12 +5,12 @@
  *   where it was, and a function that shows it elsewhere
  */
 import { theChoice } from "./choice.js";
-import { parts } from "./drawing.js";
+import { partOf, parts } from "./drawing.js";
 import { at, onClick } from "./elements.js";
 import { moveOnGround } from "./ground.js";
 import { news } from "./messages.js";
 import { isFar, paint } from "./painting.js";
-import { partOf, showPicture } from "./picture.js";
+import { showPicture } from "./picture.js";
 import { ask, watchPicture } from "./state.js";
 import { now, watch } from "./store.js";
 import { dropHeld, reveal, scale, setGrab } from "./view.js";
@@ -162,12 +162,13 @@ export function moveByKey(part, [right, down], isFine) {
 }
 
 /**
- * Returns the place that a drag moves, if it begins on one. A finger moves the selected place alone, and else the view.
+ * Returns the place that a drag moves, if it begins on one, and not on a name beside it. A finger moves the selected place alone.
  * @param {PointerEvent} event
  * @returns {Held | null}
  */
 function grab(event) {
-  const part = event.target instanceof Element ? /** @type {SVGElement | null} */ (event.target.closest("#picture g.node")) : null;
+  const on = event.target instanceof Element && !event.target.matches(".spread > text") ? event.target : null;
+  const part = /** @type {SVGElement | null} */ (on?.closest("#picture g.node") ?? null);
   if (!part || now.drawing.fixed || isFar() || event.pointerType === "touch" && part !== partOf(theChoice())) return null;
   putKeyed();
   const place = carry(part);

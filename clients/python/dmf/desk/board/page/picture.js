@@ -8,11 +8,12 @@ import { arrowsOf, pointArrows } from "./arrows.js";
 import { hintBeyond } from "./beyond.js";
 import { choose, theChoice } from "./choice.js";
 import { markOf, shadeOf, thicker, thickness, usualLength } from "./colourings.js";
-import { boxOf, parts, show } from "./drawing.js";
+import { boxOf, partOf, parts, show } from "./drawing.js";
 import { at, make, onClick } from "./elements.js";
 import { isFaded } from "./filter.js";
 import { setWhole } from "./gliding.js";
 import { chooseNear, ground, groundBox, isGround, isOfLimit, lookAtGround, middlePlace, setBefore } from "./ground.js";
+import { holdChoice } from "./holding.js";
 import { labelsOf } from "./labels.js";
 import { markAt, setMarks, shades } from "./legend.js";
 import { isPicked, pickedCount } from "./many.js";
@@ -42,12 +43,6 @@ let limits = [];
 
 /** Returns true if not all arcs are shown. */
 export const isPart = () => count < present().arcs;
-
-/**
- * Returns the part of the picture that shows an arc or a place.
- * @param {import("./choice.js").Choice | null} choice
- */
-export const partOf = (choice) => parts().find((part) => part.id === (choice?.arc ? `arc-${choice.arc}` : `node-${choice?.node}`));
 
 /**
  * Shows what is near a place.
@@ -82,15 +77,16 @@ export async function showPicture() {
 /**
  * Shows the board's answer, unless another one was requested meanwhile.
  * @param {{ svg: string, reason: string, arcs: any[], has_ground: boolean, version: number, layout: number, origin: string,
- *   fixed: string, can_lay_out: boolean, moved: number }} told
+ *   fixed: string, can_lay_out: boolean, can_draw_all: boolean, moved: number }} told
  * @param {number} turn
  */
 async function showTold(told, turn) {
   await lookAtGround(told.has_ground, told.version);
   if (turn !== asked) return;
-  if (told.layout !== shown.drawing.layout) nearShown = "none";
+  const isElsewhere = told.layout !== shown.drawing.layout, hold = isElsewhere ? holdChoice() : null;
+  if (isElsewhere) nearShown = "none";
   put("drawing", { version: told.version, layout: told.layout, near, form, origin: told.origin, fixed: told.fixed,
-    canLayOut: told.can_lay_out, moved: told.moved });
+    canLayOut: told.can_lay_out, canDrawAll: told.can_draw_all, moved: told.moved });
   count = told.arcs.length;
   const where = near && theChoice()?.node ? "the chosen place" : near ? "a place" : "the bottleneck";
   const part = isGround() ? `All ${present().arcs} are drawn. Move in to read their names and numbers. `
@@ -103,6 +99,7 @@ async function showTold(told, turn) {
   setMarks(isGround() ? ground.lines.map((line) => line.mark)
     : told.arcs.map((arc) => markOf(arc.number, arc.mark)), isGround() || !isPart());
   draw(told.svg);
+  hold?.();
 }
 
 /** @param {string} text */

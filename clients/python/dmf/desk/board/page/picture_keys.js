@@ -1,9 +1,9 @@
 /** The keys of the picture: they go from place to place, and move and scale the view. */
-import { parts } from "./drawing.js";
+import { partOf, parts } from "./drawing.js";
 import { at } from "./elements.js";
 import { nextPlace } from "./ground.js";
 import { moveByKey, undoMove } from "./moving.js";
-import { choosePart, fitAll, LARGER, partOf, showNear } from "./picture.js";
+import { choosePart, fitAll, LARGER, showNear } from "./picture.js";
 import { tidy } from "./tidy.js";
 import { move, reveal, zoom } from "./view.js";
 

@@ -4,17 +4,18 @@
  * @typedef {{ number: number, short: string, doubled: string, won: string, gain: string }} Second
  * @typedef {{ turn: number, found: Map<number, Second>, isOver: boolean }} Seconds
  * @typedef {{ version: number, layout: number, near: string, form: number, origin: string, fixed: string, canLayOut: boolean,
- *   moved: number }} Drawing
+ *   canDrawAll: boolean, moved: number }} Drawing
  *   `version` is another one after a place was moved, and `layout` if all lie elsewhere; the picture is that near a place, in a window of
  *   this `form`; `origin` says where positions come from, if that is known, `fixed` why no place can be moved, if so, and `moved` how
- *   many were
+ *   many were; with `canDrawAll` the picture is a part, and all can be laid out
  * @typedef {{ seconds: Seconds | null, drawing: Drawing }} Store
  *   `seconds`: what a second one beside each arc of the bottleneck brings, once that is asked for; `drawing`: what is known of the picture
  */
 
 /** @type {Store} */
 const held = { seconds: null,
-  drawing: { version: 0, layout: 0, near: "", form: 0, origin: "", fixed: "not drawn yet", canLayOut: false, moved: 0 } };
+  drawing: { version: 0, layout: 0, near: "", form: 0, origin: "", fixed: "not drawn yet", canLayOut: false,
+    canDrawAll: false, moved: 0 } };
 /** @type {Map<string, ((value: any, before: any) => unknown)[]>} */
 const watchers = new Map();
 
