@@ -145,7 +145,7 @@ class Picture:
         return root
 
     def begin_layout(self, arcs: list[int], nodes: tuple[int, ...], version: int) -> LayoutRun:
-        """Lay out these arcs and nodes from the beginning, in a thread of its own."""
+        """Begin to lay out these arcs and nodes anew, in a thread of its own."""
         shape = self._shape_of(arcs, nodes)
         ways = shape.ways()
         text = _text(self._lines(shape, ways))
