@@ -142,7 +142,8 @@ def told(desk: Desk) -> tuple[object, ...]:
     project = project_of(desk).project
     kept = [(it.name, it.at, [step.text for step in it.steps]) for it in project.scenarios]
     made = desk.network.names.made
-    return steps, desk.at, desk.value, lines, [*desk.cut_arcs()], made, kept, project.present
+    places = made, project.moved
+    return steps, desk.at, desk.value, lines, [*desk.cut_arcs()], places, kept, project.present
 
 
 def typed(line: str) -> Callable[[Desk], object]:
@@ -160,6 +161,14 @@ def asked(**fields: object) -> Callable[[Desk], object]:
     return act
 
 
+def dragged(desk: Desk) -> None:
+    """Move a place in the picture."""
+    made, mill = Board(desk), desk.network.names.place("Mill")
+    made.get("picture", {"near": ""})
+    spot = {"node": mill.entry, "right": 150, "down": -200, "form": 0}
+    made.post("move", {**spot, "turn": desk.turn})
+
+
 BROKEN_OFF = {
     "a line": (typed("close Mill Lane"), KeyboardInterrupt),
     "a new place of a line": (typed('add Mill --new "New Town" 50'), KeyboardInterrupt),
@@ -174,6 +183,7 @@ BROKEN_OFF = {
     ),
     "a scenario of a request": (asked(what="scenario-copy", name="more"), MemoryError),
     "steps of a request": (asked(what="go", step=2), MemoryError),
+    "a place that is dragged": (dragged, MemoryError),
 }
 
 
