@@ -14,6 +14,8 @@ SECONDS = 60
 # How long it is waited before the page is asked again whether something is so, at first and at
 # most, in seconds.
 SOON, LATE = 0.01, 0.2
+# What has a role by which it is found.
+SEEN_ROLES = "button, [role=tab], table, dl, select, input"
 # Opens the tab of the panel that has an element.
 REACH = """
 const part = arguments[0].closest("[role=tabpanel]");
@@ -167,6 +169,21 @@ class Page:
         return self.driver.find_element(
             "xpath", f"//button[text()={word!r} or @aria-label={word!r}]"
         )
+
+    def by_role(self, role: str, name: str) -> Any:
+        """What is seen that has this role, and a name that begins with this, once it is there."""
+        found: list[Any] = []
+
+        def is_found() -> bool:
+            for it in self.driver.find_elements("css selector", SEEN_ROLES):
+                if it.aria_role == role and it.accessible_name.startswith(name):
+                    found[:] = [it] if it.is_displayed() else []
+                    if found:
+                        return True
+            return False
+
+        self.wait(is_found)
+        return found[0]
 
     def write(self, place: str, *keys: str) -> None:
         """Types into a field, in place of what stands there."""

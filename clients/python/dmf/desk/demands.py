@@ -3,11 +3,11 @@ carries."""
 
 from __future__ import annotations
 
-from collections.abc import Mapping
+from collections.abc import Iterable, Mapping
 from typing import NamedTuple
 
 from ..quantity import EXACT, Quantity, plain_text
-from ..text.table_comments import DEMAND, listed
+from ..text.table_comments import listed
 from .workspace import Desk
 
 MOST_NAMED = 5
@@ -44,9 +44,11 @@ def limited_amounts(desk: Desk, kind: str) -> dict[int, LimitedAmount]:
     return {node: LimitedAmount(*it) for node, *it in zip(numbers, flows, limits)}
 
 
-def told_demands(desk: Desk) -> str:
-    """Return whether the demands of a desk's present flow are met."""
-    return demand_sentence(desk, limited_amounts(desk, DEMAND))
+def total(amounts: Iterable[Quantity]) -> Quantity:
+    found: Quantity = 0
+    for it in amounts:
+        found = EXACT.add(found, it)
+    return found
 
 
 def demand_sentence(desk: Desk, demands: Mapping[int, LimitedAmount]) -> str:
@@ -55,8 +57,6 @@ def demand_sentence(desk: Desk, demands: Mapping[int, LimitedAmount]) -> str:
     short = {node: it for node, it in demands.items() if it.short > 0}
     if not short:
         return "all demands are met" if demands else ""
-    total: Quantity = 0
-    for it in short.values():
-        total = EXACT.add(total, it.short)
+    missing = total(it.short for it in short.values())
     names = (f"{network.names.node(node)} ({it.text})" for node, it in short.items())
-    return f"short by {network.told(total)}: {listed(names, MOST_NAMED)}"
+    return f"short by {network.told(missing)}: {listed(names, MOST_NAMED)}"

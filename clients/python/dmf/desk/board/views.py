@@ -10,8 +10,9 @@ from decimal import Decimal
 from ...quantity import EXACT, Quantity, magnitude, moved, plain_text
 from ...session.base import Part, ValuesWithout
 from ...text.spelling import cleaned, nearest
+from ...text.table_comments import DEMAND
 from ..analysis import cheapest, priced, prices
-from ..demands import told_demands
+from ..demands import demand_sentence, limited_amounts, total
 from ..expressions import amount, successors
 from ..pipes import TwoWayPipe, other_way, way_sign
 from ..project.scenarios import Scenarios
@@ -124,10 +125,40 @@ def state_view(desk: Desk, offer: str = "") -> Json:
         "limit_count": len(cut),
         "side": side[:MOST_SIDE],
         "side_count": len(side),
-        "demands": (
-            told_demands(desk) if network.folding.has_roles and not desk.flows_follow else ""
+        **(
+            demands_view(desk)
+            if network.folding.has_roles and not desk.flows_follow
+            else NO_DEMANDS
         ),
         "names": list(names.places)[:MOST_LISTED],
+    }
+
+
+# What is told of demands if there are none, or they are not known yet.
+NO_DEMANDS: Json = {"demands": "", "asked": "", "short": [], "short_count": 0}
+
+
+def demands_view(desk: Desk) -> Json:
+    """Return whether all demands are met, or which are short, in a sentence; how much all places
+    ask for; and those that are short, the largest shortage first. All is empty if no place asks for
+    a limited amount."""
+    found = limited_amounts(desk, DEMAND)
+    short = {node: it for node, it in found.items() if it.short > 0}
+    largest_first = sorted(short.items(), key=lambda it: -it[1].short)
+    return {
+        "demands": demand_sentence(desk, found),
+        "asked": plain_text(total(it.limit for it in found.values())) if found else "",
+        "short": [
+            {
+                "node": node,
+                "name": desk.network.names.node(node),
+                "flow": plain_text(it.flow),
+                "limit": plain_text(it.limit),
+                "missing": plain_text(it.short),
+            }
+            for node, it in largest_first[:MOST_LISTED]
+        ],
+        "short_count": len(short),
     }
 
 

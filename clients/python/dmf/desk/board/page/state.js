@@ -11,7 +11,8 @@
  *   arcs: number, given: number, places: number, kept_in: string, scenario: string, why_not: string, floor: number, offer: string,
  *   flows_follow: boolean, at: number, by: string,
  *   steps: { text: string, value: string, by: string }[], limit: Arc[], limit_count: number, side: string[], side_count: number,
- *   demands: string, names: string[], parts?: Record<string, any> }} State
+ *   demands: string, asked: string, short: Short[], short_count: number, names: string[], parts?: Record<string, any> }} State
+ * @typedef {{ node: number, name: string, flow: string, limit: string, missing: string }} Short a place that gets less than it asks for
  * @typedef {{ arc?: number, node?: number }} Choice
  */
 import { heard, ONCE } from "./asking.js";

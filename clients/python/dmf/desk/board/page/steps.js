@@ -8,6 +8,7 @@ import { act, redo, undo } from "./state.js";
 /** @param {State} state */
 export function showSteps(state) {
   const held = document.activeElement;
+  for (const id of ["undo", "redo"]) at(id).hidden = state.steps.length === 1;
   field("undo").disabled = state.at <= state.floor;
   field("redo").disabled = state.at === state.steps.length - 1;
   if (held === at("undo") && state.at <= state.floor) at("redo").focus();

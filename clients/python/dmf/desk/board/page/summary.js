@@ -1,22 +1,45 @@
 /**
- * The headline, with what can be sent.
+ * The headline: what can be sent, what is short, the bottleneck, and what the last steps changed. It has at most three lines, or four if
+ * it is narrow; text that is cut there is whole for screen readers, and stands in the panel.
  * @typedef {import("./state.js").State} State
  */
-import { at, make, onClick, replaceAlike } from "./elements.js";
-import { act, noun, present, units } from "./state.js";
-import { fileName, grouped, upper } from "./words.js";
+import { pickPlace } from "./choice.js";
+import { at, fill, make, numberCell, onClick, replaceAlike } from "./elements.js";
+import { act, caption, noun, present, units } from "./state.js";
+import { fileName, grouped, listed, upper } from "./words.js";
+
+/** The most names of places that are short in the headline. */
+const MOST_SHORT = 3;
+
+/** @param {State} state */
+function showValue(state) {
+  const asked = state.asked && ` of ${state.asked}`, ends = `from ${state.source} to ${state.sink}`;
+  at("value").replaceChildren(make("strong", state.value), `${asked}${units()} can be sent ${ends}, and not more.`);
+  at("value").title = at("value").textContent ?? "";
+  at("since").hidden = !state.at;
+  const [by, rest] = state.by === "no change" ? ["as much", " as at the beginning"] : [state.by, " than at the beginning"];
+  at("since").replaceChildren(by, make("span", rest, { class: "rest" }));
+  at("since").dataset.by = state.by.split(" ").pop();
+}
+
+/** @param {State} state */
+function showShort(state) {
+  const names = state.short.slice(0, MOST_SHORT).map((it) => `${it.name} ${it.missing}`);
+  at("demands").hidden = !state.demands;
+  at("demands").textContent = names.length ? `Short: ${listed(names, state.short_count)}` : `${upper(state.demands)}.`;
+  at("short").hidden = !names.length;
+  fill("short-table", caption(), ["Place", "arrives", "short"], state.short.map((it) => [
+    pickPlace(it), numberCell(`${it.flow} of ${it.limit}`), numberCell(it.missing)]));
+}
 
 /** @param {State} state */
 export function showSummary(state) {
   const named = state.scenario ? `, ${state.scenario}` : "";
   document.title = `${state.value} ${fileName(state.title)}${named}`;
   at("title").title = state.title;
-  at("title").textContent = `${fileName(state.title)}${named}: from ${state.source} to ${state.sink}`;
-  const since = state.at ? ` (${state.by} than at the beginning).`.replace("no change than", "as much as") : ".";
-  at("value").replaceChildren(
-    make("strong", state.value), `${units()} can be sent from ${state.source} to ${state.sink}, and not more${since}`);
-  at("demands").hidden = !state.demands;
-  at("demands").textContent = `${upper(state.demands)}.`;
+  at("title").textContent = `${fileName(state.title)}${named}`;
+  showValue(state);
+  showShort(state);
   at("show-limit").hidden = !state.limit_count;
   // The bottleneck may also contain what a place gives, takes or lets through.
   const word = state.limit.some((arc) => arc.node) ? "part" : noun();

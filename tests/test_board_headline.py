@@ -1,0 +1,138 @@
+"""The headline of a board's page: a compact card at each width, whose cut text is whole for screen
+readers, in headless Chromium."""
+
+from __future__ import annotations
+
+from pathlib import Path
+from typing import Any
+
+import pytest
+from board_pages import Page
+from board_running import board
+from desk_shared import PIPES
+from test_board_access import as_before, judge_names, show
+
+pytestmark = pytest.mark.seconds(20)
+WIDTHS = 1280, 768, 400
+# The most lines of the headline on a wide page, and its greatest height on a narrow one, in pixels.
+LINES, HIGH = 3, 110
+# The box of the headline, where the panel or its handle begins, the tops and bottoms of its texts
+# that are seen, and the sizes of their letters.
+HEAD = """
+const head = document.querySelector("header").getBoundingClientRect(), texts = [], sizes = [];
+const walker = document.createTreeWalker(document.querySelector("header"), NodeFilter.SHOW_TEXT);
+while (walker.nextNode()) {
+  const it = walker.currentNode, range = document.createRange();
+  if (!it.data.trim() || !it.parentElement.checkVisibility({ visibilityProperty: true })) continue;
+  range.selectNodeContents(it);
+  texts.push(...[...range.getClientRects()].map(({ top, bottom }) => [top, bottom]));
+  sizes.push(parseFloat(getComputedStyle(it.parentElement).fontSize));
+}
+const fold = document.getElementById("fold").getBoundingClientRect();
+return [[head.left, head.top, head.right, head.bottom], fold.width ? fold.left : innerWidth,
+  texts, sizes];
+"""
+# Each of these asks for 10 more than its pipe carries, and the last for 40 more.
+PLACES = [f"Waterworks of the {word} District" for word in ("North", "South", "East", "West")]
+HOSPITAL = "Hospital"
+
+
+def town(folder: Path) -> list[str]:
+    """The words of a board for a table in which five places are short."""
+    rows = "".join(f"Spring,{place},20,pipe of {place}\n" for place in [*PLACES, HOSPITAL])
+    (folder / "town.csv").write_text("from,to,l/s,pipe\n" + rows)
+    asked = "".join(f"{place},30\n" for place in PLACES) + f"{HOSPITAL},60\n"
+    (folder / "asked.csv").write_text("place,demand\n" + asked)
+    sinks = str(folder / "asked.csv")
+    return ["--source", "Spring", "--sinks", sinks, str(folder / "town.csv")]
+
+
+def lines(texts: list[list[float]]) -> int:
+    """How many lines texts have, of which those that overlap by their middles are one."""
+    count, end = 0, 0.0
+    for top, bottom in sorted(texts, key=sum):
+        if (top + bottom) / 2 > end:
+            count += 1
+        end = max(end, bottom)
+    return count
+
+
+def judge_head(page: Page, width: int) -> None:
+    """The headline is compact, can be read, and is no wider than the free part."""
+    (left, _, right, bottom), free, texts, sizes = page.driver.execute_script(HEAD)
+    top = page.driver.execute_script(HEAD)[0][1]
+    assert 0 <= left < right <= free
+    assert min(sizes) >= 11
+    if width == 1280:
+        assert lines(texts) <= LINES, texts
+    else:
+        assert bottom - top <= HIGH
+
+
+def heard(driver: Any) -> str:
+    """All that a screen reader hears."""
+    return " ".join(name for _, name, _ in judge_names(driver))
+
+
+@pytest.mark.parametrize("width", WIDTHS)
+def test_compact(driver: Any, tmp_path: Path, width: int) -> None:
+    """With long names, five shortages and a step it has three lines, or is at most 110 pixels high;
+    a screen reader hears the value, the largest shortages, the bottleneck and the change."""
+    with board(*town(tmp_path)) as it:
+        show(driver, width, "light")
+        page = Page(driver, it.address)
+        judge_head(page, width)
+        # The places get 100 of the 180 that they ask for; without one of five pipes, 80.
+        it.do(what="close", arc=1)
+        page.wait(lambda: page.value() == 80)
+        judge_head(page, width)
+        said = heard(driver)
+        for text in (
+            "80",
+            " of 180 l/s can be sent from Spring to ",
+            ", and not more.",
+            "20 less",
+            " than at the beginning",
+            f"Short: {HOSPITAL} 40, {PLACES[0]} 30, {PLACES[1]} 10 and 2 more",
+            "Bottleneck: 4 pipes",
+        ):
+            assert text in said, (text, said)
+        page.by_role("button", "Bottleneck: 4 pipes")
+        assert page.by_role("button", "Undo").is_enabled() and page.undo() == 100
+        page.by_role("button", "Redo")
+        as_before(driver)
+
+
+def test_all_that_is_short(driver: Any, tmp_path: Path) -> None:
+    """The panel lists every place that is short, the largest shortage first, and a click shows
+    it."""
+    with board(*town(tmp_path)) as it:
+        show(driver, 1280, "light")
+        page = Page(driver, it.address)
+        page.by_role("tab", "Selected").click()
+        rows = page.driver.execute_script(
+            "return [...document.querySelectorAll('#short-table tbody tr')].map((row) => "
+            "[...row.cells].map((it) => it.textContent))"
+        )
+        wanted = [[HOSPITAL, "20 of 60", "40"], *([name, "20 of 30", "10"] for name in PLACES)]
+        assert rows == wanted
+        page.press(PLACES[2])
+        page.wait(lambda: page.text("#what h3") == PLACES[2])
+        as_before(driver)
+
+
+@pytest.mark.parametrize("width", WIDTHS)
+def test_nothing_is_short(driver: Any, width: int) -> None:
+    """Without limited amounts it says what can be sent and the bottleneck, and nothing else."""
+    with board(PIPES) as it:
+        show(driver, width, "light")
+        page = Page(driver, it.address)
+        judge_head(page, width)
+        said = " ".join(page.text("header").split())
+        sent = "165 litres per second can be sent from Reservoir to Harbour, and not more."
+        assert said == f"pipes.csv {sent} Bottleneck: 3 pipes"
+        it.do(what="close", arc=10)
+        page.wait(lambda: page.value() == 155)
+        judge_head(page, width)
+        page.by_role("button", "Undo")
+        as_before(driver)
