@@ -280,7 +280,15 @@ def judge_drawn(page: Page, it: Board, ground: Any, red: list[int]) -> None:
     limit = [place for place, look in enumerate(looks) if look == "l"]
     others = [place for place, look in enumerate(looks) if look == "u" and place > 200][:40]
     ends = [[tail, head] for tail, head in zip(ground["tails"], ground["heads"])]
-    page.wait(lambda: all(has(page, ground, ends[place], red) for place in limit))
+
+    def is_red(place: int) -> bool:
+        """Whether an arc is red in its middle or a quarter further on, since a name may lie over
+        a part of it."""
+        tail, head = ends[place]
+        spots = [tail, head], [tail, tail, tail, head], [tail, head, head, head]
+        return any(has(page, ground, [*spot], red) for spot in spots)
+
+    page.wait(lambda: all(map(is_red, limit)))
     assert not all(has(page, ground, ends[place], red) for place in others)
     # A click on the middle of an arc of the limit, as large as it is when all of that is seen.
     page.press("The bottleneck")

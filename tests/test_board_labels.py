@@ -35,7 +35,8 @@ const places = parts.filter((it) => it.matches(".node")).map((it) =>
 const labels = parts.filter((it) => !it.matches(".unlabelled")).map((it) =>
   [it.id, box([...it.querySelectorAll("text")]), it]);
 const wide = { left: 0, top: 0, right: innerWidth, bottom: innerHeight };
-const over = ["head", "foot", "panel", "fold"].map((id) => box([document.getElementById(id)]));
+const over = ["head", "foot", "moves", "panel", "fold"].map((id) =>
+  box([document.getElementById(id)]));
 const lines = parts.filter((it) => it.matches(".arc")).map((it) => {
   const path = it.querySelector("path:not(.wide)"), { a, d, e, f } = path.getScreenCTM();
   const long = path.getTotalLength(), count = Math.ceil(long * a / 3);

@@ -21,7 +21,7 @@ WIDTHS = 1280, 768, 400
 OVER = """
 const box = (it) => { const { left, top, right, bottom } = it.getBoundingClientRect();
   return [left, top, right, bottom]; };
-const over = ["head", "foot", "panel"].map((id) => document.getElementById(id));
+const over = ["head", "foot", "moves", "panel"].map((id) => document.getElementById(id));
 return [[innerWidth, innerHeight], box(document.getElementById("picture")),
   over.filter((it) => it.checkVisibility()).map(box)];
 """
@@ -128,10 +128,10 @@ def test_one_choice(driver: Any) -> None:
         page.wait(lambda: page.text("#what h3") == row.text)
         assert driver.find_element("id", "part-all").is_displayed()
         assert driver.find_element("id", "arc-13").get_attribute("aria-pressed") == "true"
-        page.choose("arc-9", "Mill Lane")
+        page.choose("arc-11", "Market Street")
         assert driver.find_element("id", "part-selected").is_displayed()
         driver.find_element("id", "tab-all").click()
-        page.wait(lambda: "chosen" in (page.find("#row-8").get_attribute("class") or ""))
+        page.wait(lambda: "chosen" in (page.find("#row-10").get_attribute("class") or ""))
         driver.get("about:blank")
 
 

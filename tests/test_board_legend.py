@@ -14,6 +14,7 @@ import pytest
 from board_pages import Page
 from board_running import Board, board
 from desk_shared import PIPES, Pipe, greatest, water
+from test_board_access import as_before, show
 
 pytestmark = pytest.mark.seconds(20)
 SPACE = "\ue00d"
@@ -239,3 +240,47 @@ def test_part(driver: Any, tmp_path: Path) -> None:
     with board("--source", "P0", "--sink", "P400", str(table)) as it:
         page = Page(driver, it.address)
         assert {count for count, _ in entries(page).values()} == {""}
+
+
+# The box of the legend's card, and of its select, its entries and the buttons beside it.
+ROW = """
+const box = (it) => { const { left, top, right, bottom } = it.getBoundingClientRect();
+  return [left, top, right, bottom]; };
+const list = document.querySelector("ul[aria-label=Legend]");
+return [box(list.closest(".card")), box(document.querySelector("label select")),
+  [...list.querySelectorAll("button")].map(box),
+  [...document.querySelectorAll("[aria-label='What the picture shows'] button")].map(box)];
+"""
+
+
+def rows_of_boxes(boxes: list[list[float]]) -> int:
+    """How many rows boxes lie in: those that overlap by their middles are in one."""
+    count, end = 0, 0.0
+    for _, top, _, bottom in sorted(boxes, key=lambda box: box[1] + box[3]):
+        if (top + bottom) / 2 > end:
+            count += 1
+        end = max(end, bottom)
+    return count
+
+
+@pytest.mark.parametrize("width, rows, high", [(1280, 1, 44), (768, 2, 80), (400, 2, 80)])
+def test_one_row(driver: Any, width: int, rows: int, high: int) -> None:
+    """The legend is one row at the bottom left of a wide page, and two rows of a narrow one; each
+    button for the view has its name, and an entry filters at each width."""
+    with board(PIPES) as it:
+        show(driver, width, "light")
+        page = Page(driver, it.address)
+        it.do(what="close", arc=12)
+        page.wait(lambda: "closed" in entries(page))
+        (left, top, right, bottom), select, found, moves = driver.execute_script(ROW)
+        assert (left, bottom - top <= high) == (8 if width == 400 else 12, True), bottom - top
+        assert rows_of_boxes(found) == 1 and rows_of_boxes([select, *found]) == rows
+        # On a narrow page the buttons are in the first row, and else in a column beside it.
+        assert rows_of_boxes([select, *moves]) == (len(moves) if width == 1280 else 1)
+        for name in "Larger", "Smaller", "All", "The bottleneck", "What is chosen":
+            assert page.by_role("button", name).is_displayed()
+        if width == 1280:
+            assert all(left <= box[0] and box[2] <= right for box in found)
+        press(page, "full")
+        filtered(page, it, lambda row: shade(row) == "full")
+        as_before(driver)

@@ -120,7 +120,7 @@ def test_beyond_the_edge(driver: Any, tmp_path: Path) -> None:
         page.press("What is chosen")
         page.wait(lambda: hints(driver))
         [shown] = hints(driver)
-        assert shown.text in ("1 of the bottleneck →", "← 1 of the bottleneck")
+        assert shown.text.strip("←→↑↓ ") == "1 of the bottleneck"
         shown.click()
         page.wait(lambda: not hints(driver))
 

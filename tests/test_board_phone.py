@@ -93,7 +93,9 @@ def middle(driver: Any) -> tuple[float, float]:
         const box = document.querySelector("#picture svg").viewBox.baseVal;
         const at = (place) => document.querySelector(place).getBoundingClientRect();
         const [top, bottom] = [at("header").bottom, at("#foot").top];
-        const right = at("#fold").width ? at("#fold").left : innerWidth;
+        const { height, width, left } = at("[aria-label='What the picture shows']");
+        const beside = height > width ? left : innerWidth;
+        const right = at("#fold").width ? Math.min(at("#fold").left, beside) : innerWidth;
         const by = innerWidth / box.width;
         return [box.x + right / 2 / by, box.y + (top + bottom) / 2 / by];
         """

@@ -9,7 +9,7 @@ import { hintBeyond } from "./beyond.js";
 import { choose, theChoice } from "./choice.js";
 import { markOf, shadeOf, thicker, thickness, usualLength } from "./colourings.js";
 import { boxOf, partOf, parts, show } from "./drawing.js";
-import { at, make, onClick } from "./elements.js";
+import { at, onClick } from "./elements.js";
 import { isFaded } from "./filter.js";
 import { setWhole } from "./gliding.js";
 import { chooseNear, ground, groundBox, isGround, isOfLimit, lookAtGround, middlePlace, setBefore } from "./ground.js";
@@ -20,7 +20,7 @@ import { isPicked, pickedCount } from "./many.js";
 import { news } from "./messages.js";
 import { paint } from "./painting.js";
 import { formOf, freePart } from "./room.js";
-import { ask, noun, present } from "./state.js";
+import { ask, present } from "./state.js";
 import { now as shown, put } from "./store.js";
 import { beginView, fit, isFitted, reveal, scale, see, seenBox, zoom } from "./view.js";
 
@@ -92,8 +92,7 @@ async function showTold(told, turn) {
   const part = isGround() ? `All ${present().arcs} are drawn. Move in to read their names and numbers. `
     : isPart() ? `${count} of ${present().arcs}: what lies nearest to ${where}. ` : "";
   at("drawn-note").classList.toggle("reason", Boolean(told.reason));
-  at("drawn-note").replaceChildren(told.reason ? `${told.reason}. ` : part,
-    make("span", `Click a ${noun()} or a place to see more, and to change it.`, { class: "hint" }));
+  at("drawn-note").textContent = told.reason ? `${told.reason}.` : part;
   at("near-limit").hidden = !near;
   at("take-svg").setAttribute("href", `picture.svg?near=${near}&form=${form}&turn=${present().turn}`);
   setMarks(isGround() ? ground.lines.map((line) => line.mark)

@@ -14,8 +14,9 @@ const RIM = 12, LEAST = 80;
 export function freePart() {
   const whole = at("picture").getBoundingClientRect(), head = at("head").getBoundingClientRect();
   const foot = at("foot").getBoundingClientRect(), panel = at("panel").getBoundingClientRect(), fold = at("fold").getBoundingClientRect();
-  // The panel is at the right, or is a bottom sheet.
-  const isSheet = !fold.width, right = isSheet ? whole.width : Math.min(whole.width, fold.left);
+  const moves = at("moves").getBoundingClientRect(), beside = moves.height > moves.width ? moves.left : whole.width;
+  // The panel is at the right, with a column of buttons beside it, or is a bottom sheet.
+  const isSheet = !fold.width, right = isSheet ? whole.width : Math.min(whole.width, fold.left, beside);
   const below = Math.min(whole.height, isSheet ? panel.top : whole.height, foot.height ? foot.top : whole.height);
   // If all is covered, as by a sheet at its full height, a part of the least size counts as free.
   const top = Math.min(head.bottom, whole.height - LEAST), bottom = Math.max(below, top + LEAST);
@@ -29,5 +30,5 @@ export function formOf() {
 }
 
 /** Returns the boxes of what covers the picture, in pixels from its corner. */
-export const covers = () => ["head", "foot", "panel", "fold", "beyond"].map((id) => at(id).getBoundingClientRect())
+export const covers = () => ["head", "foot", "moves", "panel", "fold", "beyond"].map((id) => at(id).getBoundingClientRect())
   .filter(({ width, height }) => width && height);
