@@ -16,7 +16,7 @@ import { Boxes, edges } from "./boxes.js";
 import { pointsOf } from "./ink.js";
 import { freeSpot } from "./spots.js";
 /** The bounds of the letters' height, in pixels; the height of a line for that; and the distance of a label from its place, in pixels. */
-const LEAST = 11.2, MOST = 17, LINE = 1.25, APART = 3;
+const LEAST = 11.2, MOST = 14, LINE = 1.25, APART = 3;
 /** The largest part of an oval that a label inside it may fill. */
 const FILLED = 1.6;
 /** The rank up to which labels are shown even if they have to lie on lines: those of the source, the sink and the selection. */
