@@ -121,6 +121,14 @@ class Page:
             )
         )
 
+    def fact(self, term: str) -> str:
+        """What is told of the choice by this term, or nothing."""
+        script = (
+            "return [...document.querySelectorAll('#what dt')].find((it) => it.innerText === "
+            "arguments[0])?.nextElementSibling.innerText ?? ''"
+        )
+        return str(self.driver.execute_script(script, term))
+
     def value(self) -> int:
         return int(self.text("#value strong"))
 

@@ -226,7 +226,7 @@ def test_a_click_is_one_request(driver: Any) -> None:
         page.choose("arc-12", "Market link")
         page.settle()
         clicks = [lambda: page.press("Close it"), lambda: page.click("#undo")]
-        for click, looks in zip(clicks, ("closed", "of 15 litres")):
+        for click, looks in zip(clicks, ("closed", "of 15")):
             page.know_worth()
             driver.execute_script("performance.clearResourceTimings()")
             assert page.after(click) == 165

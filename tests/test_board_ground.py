@@ -235,7 +235,7 @@ def test_without_graphviz(driver: Any, tmp_path: Path, monkeypatch: pytest.Monke
             assert (driver.execute_script(INK) > 2_000) == is_drawn
             before = page.value()
             page.press("Close it")
-            page.wait(lambda: page.text("#what p").endswith("It is closed."))
+            page.wait(lambda: page.text("#what .chips") == "closed")
             assert page.undo() == before
             driver.get("about:blank")
 
@@ -309,7 +309,7 @@ def judge_drawn(page: Page, it: Board, ground: Any, red: list[int]) -> None:
     )
     assert box[0] < x < box[0] + box[2] and box[1] < y < box[1] + box[3], "what is chosen is seen"
     page.press("Close it")
-    page.wait(lambda: page.text("#what p").endswith("It is closed."))
+    page.wait(lambda: page.text("#what .chips") == "closed")
     page.settle()
     page.wait(lambda: it.told("looks")["arcs"][row["number"] - 1] == "c")
     page.undo()

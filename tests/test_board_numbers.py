@@ -109,10 +109,9 @@ def test_numbers(driver: Any, tmp_path: Path) -> None:
         says("what Weir lets through", "in litres")
         page.press("what Weir lets through")
         page.wait(lambda: page.text("#what h3") == "Weir")
-        says(
-            "55.5 litres come in, and 55.5 go out.",
-            "What Weir lets through: 55.5 litres, of which 55.5 flow. It is part of the bottleneck",
-        )
+        told = {"Comes in": "55.5", "Goes out": "55.5", "What Weir lets through": "55.5 of 55.5"}
+        assert {term: page.fact(term) for term in told} == told
+        assert page.text("#what .chips") == "bottleneck"
         for typed, value, step in (
             ("70,25", "62.65", "70.25"),
             ("-10 %", "62.65", "63.225"),
@@ -130,12 +129,14 @@ def test_numbers(driver: Any, tmp_path: Path) -> None:
             )  # noqa: B023
             says(f"{value} litres can be sent", f"Weir lets through {step} litres: {value}")
         page.choose("node-1", "Mill")
-        says("What Mill gives at most: no limit, and ", "It is one of the sources.")
+        assert page.fact("What Mill gives at most").endswith(", no limit")
+        assert page.text("#what .chips") == "a source"
         page.write("#capacity-6", "5,5")
         page.press("Set")
         page.wait(lambda: "Mill gives at most 5.5 litres: 25.55" in page.text("#way"))
         page.settle()
-        says("What Mill gives at most: 5.5 litres, of which 5.5 flow. It is part of the bottleneck")
+        assert page.fact("What Mill gives at most") == "5.5 of 5.5"
+        assert page.text("#what .chips") == "a source bottleneck"
         page.know_worth()
         worst = page.text("#worst-table tbody tr")
         assert worst.startswith("Side") and worst.endswith("20.05"), worst

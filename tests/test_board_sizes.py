@@ -105,7 +105,7 @@ def judge_one(page: Page, it: Board, rows: list[Any], arc: Any) -> None:
     page.wait(lambda: page.text("#what h3") == arc["name"])
     closed = [{**row, "closed": row["number"] == arc["number"]} for row in rows]
     assert page.after(lambda: page.press("Close it")) == value_of(closed)
-    page.wait(lambda: page.text("#what p").endswith("It is closed."))
+    page.wait(lambda: page.text("#what .chips") == "closed")
     now = spots(it)
     assert {place: now[place] for place in now if place in before} == {
         place: before[place] for place in before if place in now

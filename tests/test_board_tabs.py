@@ -95,7 +95,7 @@ def test_broken_connection(driver: Any) -> None:
         page.settle()
         assert it.state()["at"] == 1
         way.unanswered = b""
-        page.wait(lambda: "It is closed." in page.text("#what"))
+        page.wait(lambda: page.text("#what .chips") == "closed")
         assert page.after(lambda: page.press("Open it again")) == 165
         assert page.text("#trouble") == ""
         page.write("#text", "Bridge")

@@ -182,9 +182,10 @@ def test_page(driver: Any, tmp_path: Path) -> None:
         page = Page(driver, it.address)
         page.write("#text", "Main")
         page.choose_found("Main")
-        page.wait(lambda: "Both ways between C and B. 3 of 3 flow to C." in page.text("#what"))
+        page.wait(lambda: page.text("#what p").startswith("Both ways between C and B"))
+        assert page.fact("Flow") == "3 of 3 to C"
         assert page.after(lambda: page.press("Close it")) == 2
-        page.wait(lambda: "It is closed." in page.text("#what"))
+        page.wait(lambda: page.text("#what .chips") == "closed")
         cells = (
             "return [...document.querySelectorAll('#grid tbody td.name')].map(it => it.textContent)"
         )

@@ -194,8 +194,7 @@ def test_page(driver: Any) -> None:
         assert "3 more cost something" in page.text("#worst-note")
         driver.execute_script("document.querySelector('#worst-table tbody button').click()")
         page.wait(lambda: wanted[0] in page.text("#what h3"))
-        text = f"Closing this: 165 to {left[wanted[0]]} litres per second."
-        page.wait(lambda: page.text("#closing") == text)
+        page.wait(lambda: page.fact("Closing this") == f"165 → {left[wanted[0]]}")
         page.press("All")
         cells = (
             "return [...document.querySelectorAll('#grid tbody td.lost')].map(it => it.textContent)"
@@ -230,22 +229,16 @@ def test_places_on_the_page(driver: Any) -> None:
         assert page.text("#worst-places-note").endswith("if one of these places is shut.")
         driver.execute_script("document.querySelector('#worst-places-table tbody button').click()")
         page.wait(lambda: page.text("#what h3") == costly[0])
-        unit = "litres per second"
-        page.wait(
-            lambda: page.text("#closing")
-            == f"Without {costly[0]}, {left[costly[0]]} of 165 {unit} is left."
-        )
+        page.wait(lambda: page.fact("Shutting it") == f"165 → {left[costly[0]]}")
         it.do(what="close", arc=NAMES.index("Bridge pipe") + 1)
         page.wait(lambda: page.value() == 155)
         pipes = [one for one in water() if one.name != "Bridge pipe"]
         less = greatest([one for one in pipes if costly[0] not in one[:2]])
-        page.wait(
-            lambda: page.text("#closing") == f"Without {costly[0]}, {less} of 155 {unit} is left."
-        )
+        page.wait(lambda: page.fact("Shutting it") == f"155 → {less}")
         it.do(what="shut", node=PLACES.index(costly[0]) + 1)
         page.wait(lambda: page.value() == less)
-        page.wait(lambda: "It is shut." in page.text("#what"))
-        assert not driver.execute_script("return document.getElementById('closing')")
+        page.wait(lambda: page.text("#what .chips") == "shut")
+        assert page.fact("Shutting it") == ""
 
 
 def shown(page: Page, table: str = "worst-table") -> list[list[str]]:

@@ -262,8 +262,9 @@ def test_page(driver: Any, tmp_path: Path) -> None:
         page.write("#capacity", "4")
         page.write("#capacity-back", "2")
         assert page.after(lambda: page.press("Set")) == 4
-        page.wait(lambda: "2 of 2 flow to C, and the other way 4 to B." in page.text("#what"))
+        page.wait(lambda: page.fact("Flow") == "2 of 2 to C")
+        assert page.fact("The other way") == "4 to B"
         page.write("#text", "one")
         page.choose_found("one")
-        page.wait(lambda: "From A to B." in page.text("#what"))
+        page.wait(lambda: page.text("#what p").startswith("From A to B"))
         assert not driver.find_elements("css selector", "#capacity-back")

@@ -30,13 +30,13 @@ ARROWS = (" <-> ", "<->", " -> ", "->", " - ", "-")
 
 class ArcNames(NamedTuple):
     """The names of an arc: its own name or what it stands for, which may be empty; a short one, its
-    name or else its ends; a full one, with both; and its ends, with the node of the first one's
-    place."""
+    name or else its ends; a full one, with both; and its ends, with the nodes of their places."""
 
     name: str
     short: str
     label: str
     tail_node: int
+    head_node: int
     tail: str
     head: str
     role: Role | None
@@ -217,16 +217,19 @@ class Directory:
             arrow = " <-> " if self._pipes.is_two_way(number) else arrow
         tail, head, key = self._lines.ends_and_key(number)
         ends = (tail_label, head_label) = self._labels[tail - 1], self._labels[head - 1]
-        role, place = None, tail
+        role, tail_node, head_node = None, tail, head
         if self._has_roles:
-            role, place = self._folding.role(tail, head), self._folding.place(tail)
+            role = self._folding.role(tail, head)
+            tail_node, head_node = map(self._folding.place, (tail, head))
         name = display(key) if isinstance(key, str) else ""
         if role:
             name = label = role_words(role, self.node)
         else:
             label = arrow.join(ends)
             label = f"{name}, {label}" if name else label
-        return ArcNames(name, name or label, label, place, tail_label, head_label, role)
+        return ArcNames(
+            name, name or label, label, tail_node, head_node, tail_label, head_label, role
+        )
 
     def arc(self, number: int) -> str:
         """Return an arc by its name and its ends."""

@@ -9,9 +9,10 @@ from typing import Any, NamedTuple
 
 from ..workspace import Desk
 from .actions import ACTS, SCENARIO_ACTS
+from .place_views import end_view, place_view
 from .responses import Fields, Json, WrongForm, judge_arcs, judge_fields
 from .shown import Shown
-from .views import arc_view, costs_view, end_view, many_view, place_view, scenarios_view
+from .views import arc_view, costs_view, many_view, scenarios_view
 
 # The most arcs in one request for second ones.
 MOST_TRIED = 5_000

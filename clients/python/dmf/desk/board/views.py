@@ -9,16 +9,16 @@ from decimal import Decimal
 
 from ...quantity import EXACT, Quantity, magnitude, moved, plain_text
 from ...session.base import Part, ValuesWithout
-from ...text.spelling import cleaned, nearest
+from ...text.spelling import cleaned
 from ...text.table_comments import DEMAND
 from ..analysis import cheapest, priced, prices
 from ..demands import demand_sentence, limited_amounts, total
 from ..expressions import amount, successors
 from ..pipes import TwoWayPipe, other_way, way_sign
 from ..project.scenarios import Scenarios
-from ..steps import DeskFault, Place, Second, UnknownPlace
+from ..steps import Second
 from ..workspace import Desk
-from ..worth import left_without, left_without_place, losses, worst, worst_places
+from ..worth import left_without, losses, worst, worst_places
 from .responses import Json, whole
 
 
@@ -192,6 +192,7 @@ def arc_views(desk: Desk, numbers: Sequence[int]) -> list[Json]:
                 "label": names.label,
                 "short": names.short,
                 "tail_node": names.tail_node,
+                "head_node": names.head_node,
                 "tail": names.tail,
                 "head": names.head,
                 "flow": plain_text(-flow if flow < 0 else flow),
@@ -214,10 +215,10 @@ def with_worth(desk: Desk, arcs: list[Json]) -> list[Json]:
     if worth is None:
         return [{**arc, **NOT_KNOWN} for arc in arcs]
     left = [left_without(desk, worth, arc["number"]) for arc in arcs]
-    return [{**arc, **_told_worth(desk, worth, it)} for arc, it in zip(arcs, left)]
+    return [{**arc, **told_worth(desk, worth, it)} for arc, it in zip(arcs, left)]
 
 
-def _told_worth(desk: Desk, worth: ValuesWithout, left: int) -> Json:
+def told_worth(desk: Desk, worth: ValuesWithout, left: int) -> Json:
     """Return what is left without an arc or a place, and what is lost."""
     quantity = desk.network.measure.quantity
     return {
@@ -263,79 +264,6 @@ def _worst_places(desk: Desk) -> Json:
         for it in found
     ]
     return {"worst": told, "more": more}
-
-
-def _place_worth(desk: Desk, place: Place) -> Json:
-    """Return what is left without a place, and what is lost, which are empty while that is not
-    known."""
-    worth = desk.state.answers.worth.get(Part.NODE)
-    if worth is None:
-        return NOT_KNOWN
-    return _told_worth(desk, worth, left_without_place(desk, worth, place))
-
-
-def place_view(desk: Desk, node: int) -> Json:
-    """Return a place as it is. Raise a `DeskFault` if no place has this number."""
-    network = desk.network
-    place = network.names.place_of(node)
-    entering, leaving = _through(desk, place)
-    return {
-        "node": node,
-        "name": network.names.node(node),
-        "in": plain_text(sum(entering.values())),
-        "out": plain_text(sum(leaving.values())),
-        "roles": arc_views(desk, [number for number, _ in network.roles().get(place.entry, ())]),
-        "is_source": place.entry in network.sources,
-        "is_sink": place.entry in network.sinks,
-        "shut": bool(network.shut_nodes & set(place)),
-        "open": bool(entering or leaving),
-        "side": node in desk.side(),
-        **_place_worth(desk, place),
-    }
-
-
-def end_view(desk: Desk, text: str) -> Json:
-    """Return the place that a text names as the end of a new arc: its node, or 0 if there is none.
-    Then also the names that are similar, and why no place can be made of this name, if that is
-    so."""
-    names = desk.network.names
-    names.is_any_case = True
-    node, near, why = 0, list[str](), ""
-    try:
-        node = names.place(text).entry
-    except UnknownPlace:
-        near = nearest(cleaned(text), names.places)
-        try:
-            names.new_name(text)
-        except DeskFault as fault:
-            why = str(fault)
-    except DeskFault as fault:
-        why = str(fault)
-    return {"node": node, "near": near, "why": why}
-
-
-def _through(desk: Desk, place: Place) -> tuple[dict[int, Quantity], dict[int, Quantity]]:
-    """Return the open pipes that lead into a place and out of it, each with what it brings or
-    takes. One that leads both ways is told once, where it flows."""
-    network = desk.network
-    lines, pipes = network.lines, network.pipes
-    entering: dict[int, Quantity] = {}
-    leaving: dict[int, Quantity] = {}
-    there = [
-        number
-        for number in network.opened_pipes()
-        if any(
-            lines[arc - 1].head == place.entry or lines[arc - 1].tail == place.exit
-            for arc in pipes.arcs(number)
-        )
-    ]
-    for number, flow in zip(there, desk.flows_on(there)):
-        way = pipes.pipe(number).way(flow)
-        if way.head == place.entry:
-            entering[number] = magnitude(flow)
-        if way.tail == place.exit:
-            leaving[number] = magnitude(flow)
-    return entering, leaving
 
 
 def costs_view(desk: Desk, column: str, to: str, second: str) -> Json:

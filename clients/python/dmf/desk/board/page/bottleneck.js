@@ -50,8 +50,14 @@ function verdict({ found, isOver }, count) {
   return `${stopped}Best to have a second of: ${listed(best.map((it) => it.short), best.length, " or ")}, ${best[0].won}${units()} more.`;
 }
 
+/**
+ * Returns true if a second one beside an arc is tried when that is asked for.
+ * @param {{ number: number }} arc
+ */
+export const canTry = ({ number }) => present().limit.some((it) => it.number === number);
+
 /** Finds what a second one beside each arc of the bottleneck brings, and shows what is found so far. */
-async function find() {
+export async function findSeconds() {
   const { limit, turn } = present();
   /** @type {Seconds} */
   const mine = { turn, found: new Map(), isOver: false };
@@ -79,5 +85,5 @@ function stop(seconds) {
 
 export function beginBottleneck() {
   watch("seconds", show);
-  onClick("seconds", () => (now.seconds && !now.seconds.isOver ? stop(now.seconds) : find()));
+  onClick("seconds", () => (now.seconds && !now.seconds.isOver ? stop(now.seconds) : findSeconds()));
 }

@@ -2,7 +2,7 @@
 import { beginAddress, nameShown } from "./address.js";
 import { beginBottleneck, showBottleneck } from "./bottleneck.js";
 import { watchChoice } from "./choice.js";
-import { showChosen, showClosing } from "./chosen.js";
+import { showChosen, showClosing, showSecond } from "./chosen.js";
 import { beginCosts, showOldCosts } from "./costs.js";
 import { beginComparing, watchComparison } from "./compare.js";
 import { at } from "./elements.js";
@@ -19,6 +19,7 @@ import { beginScenarios, showScenarios } from "./scenarios.js";
 import { begin, watch } from "./state.js";
 import { beginSnapshot } from "./snapshot.js";
 import { beginSteps, showSteps } from "./steps.js";
+import { watch as watchStore } from "./store.js";
 import { beginKeeping, showSummary } from "./summary.js";
 import { beginTable, goToChosen, showFiltered, showForms, showRows, showTable } from "./table.js";
 import { beginTidying } from "./tidy.js";
@@ -28,6 +29,7 @@ const watchers = [showSummary, showBottleneck, showSteps, showChosen, sayPicture
 for (const watcher of [...watchers, followMany, showScenarios, nameShown, showOldCosts]) watch(watcher);
 watch(findWorth);
 watchWorth(showClosing);
+watchStore("seconds", showSecond);
 watchWorth(showTable);
 watchWorth(applyFilter);
 watchChoice(mark);

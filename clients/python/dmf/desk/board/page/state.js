@@ -1,12 +1,14 @@
 /**
  * The latest state from the board, and the requests to the board.
- * @typedef {{ number: number, node: number, tail_node: number, name: string, label: string, short: string, tail: string, head: string,
+ * @typedef {{ number: number, node: number, tail_node: number, head_node: number, name: string, label: string, short: string, tail: string,
+ *   head: string,
  *   flow: string, capacity: string, way: string, other_way: string, there: string, back: string, closed: boolean, replaced: boolean,
  *   unlimited: boolean, full: boolean, limit: boolean, without: string, lost: string }} Arc
  *   `way` is empty unless it leads both ways: ">" if it flows from tail to head, "<" if back, "-" if not at all; and `other_way` says what
  *   it can carry the other way, if that is something else; `there` and `back` are its capacities, if both ways are open
  * @typedef {{ node: number, name: string, in: string, out: string, roles: Arc[], is_source: boolean, is_sink: boolean, shut: boolean,
- *   open: boolean, side: boolean, without: string, lost: string }} Place
+ *   open: boolean, side: boolean, entering: Arc[], leaving: Arc[], more: [number, number], without: string, lost: string }} Place
+ *   `more`: how many other arcs enter it, and leave it
  * @typedef {{ turn: number, title: string, unit: string, noun: string, notes: string[], source: string, sink: string, value: string,
  *   arcs: number, given: number, places: number, kept_in: string, scenario: string, why_not: string, floor: number, offer: string,
  *   flows_follow: boolean, at: number, by: string,

@@ -86,22 +86,7 @@ function showTable(id, what, lost, more, rows) {
 }
 
 /**
- * Returns in words what is left without an arc, or an empty text while that is not known.
- * @param {Arc} arc
+ * Returns the value now and without an arc or a place, or an empty text while that is not known.
+ * @param {{ without: string }} lost
  */
-export function closingWords(arc) {
-  const { value } = present();
-  if (!arc.without) return "";
-  return `Closing this: ${value} to ${arc.without}${units()}${arc.lost === "0" ? ", nothing lost." : "."}`;
-}
-
-/**
- * Returns in words what is left without a place, or an empty text while that is not known.
- * @param {import("./state.js").Place} place
- */
-export function shuttingWords(place) {
-  if (!place.without) return "";
-  if (place.lost === "0") return `Without ${place.name}, nothing is lost.`;
-  const left = place.without === "0" ? "nothing" : `${place.without} of ${present().value}${units()}`;
-  return `Without ${place.name}, ${left} is left.`;
-}
+export const leftWithout = ({ without }) => without && `${present().value} → ${without}`;

@@ -1,0 +1,58 @@
+/**
+ * What the page says about a place, and what can be done to it.
+ * @typedef {import("./state.js").Arc} Arc
+ * @typedef {import("./state.js").Place} Place
+ */
+import { adding } from "./adding.js";
+import { pick } from "./choice.js";
+import { button, make, numberCell } from "./elements.js";
+import { amounts, chips, facts, inUnits, setting } from "./facts.js";
+import { isPart, showNear } from "./picture.js";
+import { act, caption, noun, present } from "./state.js";
+import { grouped, upper } from "./words.js";
+import { leftWithout } from "./worth.js";
+
+/**
+ * Returns the pipes that lead into a place or out of it, each with what it carries.
+ * @param {Place} place
+ * @param {string} title
+ * @param {Arc[]} arcs
+ * @param {number} more how many others there are
+ */
+function pipes(place, title, arcs, more) {
+  const rows = arcs.map((arc) => {
+    const [word, end] = arc.tail_node === place.node ? ["to", arc.head] : ["from", arc.tail], name = pick(arc, arc.short);
+    if (arc.name) name.append(make("span", ` ${word} ${end}`, { class: "soft" }));
+    return make("tr", [name, numberCell(amounts(arc))]);
+  });
+  if (more) rows.push(make("tr", make("td", `${grouped(more)} more carry less.`, { class: "soft", colspan: "2" })));
+  const heads = [make("th", upper(noun()), { scope: "col" }), make("th", "flow", { scope: "col", class: "number" })];
+  return make("table", [make("caption", title), make("thead", make("tr", heads)), make("tbody", rows)]);
+}
+
+/** @param {Place} place */
+function marks(place) {
+  const { source, sink, short } = present();
+  const end = place.is_source ? (place.name === source ? "the source" : "a source")
+    : place.is_sink && (place.name === sink ? "the sink" : "a sink");
+  const missing = short.find((it) => it.node === place.node)?.missing;
+  return chips([[end], [place.shut && "shut"], [missing ? `${missing} short` : false, "limit"],
+    [place.roles.some((role) => role.limit && !role.closed) && "bottleneck", "limit"]]);
+}
+
+/** @param {Place} place */
+export function aboutPlace(place) {
+  const roles = place.roles.filter((role) => !role.closed);
+  const shut = button("Shut it", () => act({ what: "shut", node: place.node }, `${place.name} is shut`), "plain");
+  const again = button("Open it again", () => act({ what: "open-place", node: place.node }, `${place.name} is open`), "plain");
+  const rows = [{ term: "Comes in", value: place.in }, { term: "Goes out", value: place.out },
+    ...roles.map((role) => ({ term: upper(role.short), value: amounts(role) })),
+    ...(place.shut ? [{ term: "Passes through", value: "0", act: again }] : []),
+    ...(place.open ? [{ term: "Shutting it", value: leftWithout(place), id: "closing", act: shut }] : [])];
+  const lists = [pipes(place, "Comes in", place.entering, place.more[0]), pipes(place, "Goes out", place.leaving, place.more[1])];
+  const fields = roles.map((role) => setting(role, `capacity-${role.number}`, [
+    { words: inUnits(upper(role.short)), value: role.unlimited ? "" : role.capacity, as: "capacity" }]));
+  return [make("h3", place.name), ...(caption() ? [make("p", caption(), { class: "soft" })] : []), marks(place), facts(rows),
+    ...lists.filter((list) => list.tBodies[0].rows.length), ...fields,
+    ...(isPart() ? [button("Show what is near it", () => showNear(place.node), "plain")] : []), adding(place)];
+}
