@@ -6,6 +6,9 @@ from __future__ import annotations
 import shutil
 from collections import defaultdict
 
+from ...quantity import plain_text
+from ...text.table_comments import AT_PLACE, DEMAND, SUPPLY
+from ..demands import limited_amounts
 from ..export import MOST_DRAWN
 from ..steps import DeskFault
 from ..workspace import Desk
@@ -66,9 +69,10 @@ class Overview:
 
     def looks(self) -> Json:
         """Return what a step may change: how each arc of the file looks and each place, by a sign
-        for each; the places that were made, with their nodes, names, positions and signs; and the
-        arcs that were added, with their numbers, ends and signs. An arc has a sign in each of five
-        texts, one for each field of a `Mark`."""
+        for each; the places that were made, with their nodes, names, positions and signs; the arcs
+        that were added, with their numbers, ends and signs; and what the places with limited
+        amounts give or take. An arc has a sign in each of five texts, one for each field of a
+        `Mark`."""
         self._put_all()
         desk, spots = self._desk, self._places.seen
         network = desk.network
@@ -97,7 +101,20 @@ class Overview:
                 for number in added
                 if number in marks
             ],
+            "ends": [*self._amounts(SUPPLY), *self._amounts(DEMAND)],
         }
+
+    def _amounts(self, kind: str) -> list[tuple[int, str, bool]]:
+        """Return what each source or each sink with a limit gives or takes, and whether too little
+        arrives there."""
+        return [
+            (
+                node,
+                f"{AT_PLACE[kind]} {plain_text(it.flow)}/{plain_text(it.limit)}",
+                kind == DEMAND and it.short > 0,
+            )
+            for node, it in limited_amounts(self._desk, kind).items()
+        ]
 
     def _ends(self, number: int) -> tuple[int, int]:
         network = self._desk.network

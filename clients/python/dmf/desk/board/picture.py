@@ -12,7 +12,7 @@ from xml.etree import ElementTree
 
 from ...quantity import POINT, magnitude, plain_text
 from ...text.drawing import CUT, SIDE, UNUSED, drawn_line, quoted
-from ...text.table_comments import AT_PLACE
+from ...text.table_comments import AT_PLACE, DEMAND
 from ..export import LEGEND, MOST_DRAWN, said_of
 from ..pipes import TwoWayPipe
 from ..steps import DeskArc
@@ -39,7 +39,7 @@ text {{ font-family: Helvetica, Arial, sans-serif; }}
 .unused text, .closed text, .shut text {{ fill: {UNUSED}; }}
 .closed path {{ stroke-dasharray: 5 2; }}
 .cut path, .cut polygon {{ stroke: {CUT}; }}
-.cut polygon, .arc.cut text, text.cut {{ fill: {CUT}; }}
+.cut polygon, .arc.cut text, text.cut, text.short {{ fill: {CUT}; }}
 .side ellipse.inner {{ fill: {SIDE}; }}
 .shut ellipse {{ stroke: {UNUSED}; }}
 .part ellipse {{ stroke-dasharray: 5 2; }}
@@ -314,7 +314,8 @@ class Picture:
             # The first text is the name.
             for text, (number, words, _) in zip(group.findall(f"{{{SVG}}}text")[1:], it.roles):
                 text.text = f"{words} {_amounts(desk, number)}"
-                text.set("class", "cut" if number in cut else "")
+                is_short = words == AT_PLACE[DEMAND] and _is_short(desk, number)
+                text.set("class", "short" if is_short else "cut" if number in cut else "")
                 label += f", {words} {spoken(desk, number, cut)}"
             is_cut = any(number in cut for number, *_ in it.roles)
             _mark(
@@ -353,6 +354,12 @@ def _amounts(desk: Desk, number: int) -> str:
         if pipe.is_unlimited
         else f"{told}/{plain_text(pipe.room(flow))}"
     )
+
+
+def _is_short(desk: Desk, number: int) -> bool:
+    """Return True if less flows on an arc than it can carry."""
+    line = desk.network.lines[number - 1]
+    return not line.is_unlimited and desk.flow(number) < line.capacity
 
 
 def spoken(desk: Desk, number: int, cut: Collection[int]) -> str:

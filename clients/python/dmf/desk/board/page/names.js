@@ -39,6 +39,14 @@ function isSeen(x, y) {
 const importance = (place) => place.weight + 1e6 * OF_LIMIT * (2 * Number(place.isEnd) + Number(isMarked(place)));
 
 /**
+ * Returns the lines of a name: each text, whether it is bold, and whether it says that too little arrives.
+ * @param {Spot} place
+ * @returns {[string, boolean, boolean][]}
+ */
+const linesOf = ({ name, isEnd, told, isShort }) => [[name, isEnd, false], ...(told ? [/** @type {[string, boolean, boolean]} */ (
+  [told, false, isShort])] : [])];
+
+/**
  * Paints the names of places that are not drawn in front.
  * @param {CanvasRenderingContext2D} pen
  * @param {Spot[]} seen
@@ -52,20 +60,27 @@ export function paintNames(pen, seen, colour, reach) {
     const [x, y, far] = [place.x * by, place.y * by, reach(place)];
     return [place, isRoomy || isNeeded(place) ? cover(x, y, far) : edges(x, y, far, far)];
   }));
-  const style = getComputedStyle(at("picture")).fontFamily;
-  Object.assign(pen, { font: `${LETTERS / by}px ${style}`, textBaseline: "middle", textAlign: "center", lineWidth: 3 / by });
-  Object.assign(pen, { strokeStyle: colour("paper"), fillStyle: colour("ink") });
+  const style = getComputedStyle(at("picture")), limit = style.getPropertyValue("--limit");
+  Object.assign(pen, { textBaseline: "middle", textAlign: "center", lineWidth: 3 / by, strokeStyle: colour("paper") });
+  const font = (/** @type {boolean} */ isBold) => `${isBold ? "bold " : ""}${LETTERS / by}px ${style.fontFamily}`;
   /** @type {Set<string>} */
   const fields = new Set();
   let count = 0;
   for (const [place, own] of [...boxes].sort(([one], [other]) => importance(other) - importance(one))) {
     const field = [place.x, place.y].map((along) => Math.floor(along * by / FIELD)).join(" "), isFirst = !fields.has(field);
     if (count >= MOST_NAMES || !isRoomy && !isFirst && !isNeeded(place)) continue;
-    const spot = nameSpot(own, [pen.measureText(place.name).width * by / 2, LETTERS * LINE / 2], isFirst || isNeeded(place));
+    // An end has a second line, with what it gives or takes.
+    const lines = linesOf(place).map(([text, isBold, isShort]) => ({ text, font: font(isBold), ink: isShort ? limit : colour("ink") }));
+    const widths = lines.map((line) => Object.assign(pen, { font: line.font }).measureText(line.text).width * by / 2);
+    const spot = nameSpot(own, [Math.max(...widths), lines.length * LETTERS * LINE / 2], isFirst || isNeeded(place));
     if (!spot || !isSeen(spot[0] / by, spot[1] / by)) continue;
     fields.add(field);
     count += 1;
-    pen.strokeText(place.name, spot[0] / by, spot[1] / by);
-    pen.fillText(place.name, spot[0] / by, spot[1] / by);
+    for (const [rank, { text, font: letters, ink }] of lines.entries()) {
+      const [x, y] = [spot[0] / by, (spot[1] + (rank - (lines.length - 1) / 2) * LETTERS * LINE) / by];
+      Object.assign(pen, { font: letters, fillStyle: ink });
+      pen.strokeText(text, x, y);
+      pen.fillText(text, x, y);
+    }
   }
 }
