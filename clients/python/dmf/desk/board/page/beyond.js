@@ -22,8 +22,9 @@ function edgeOf([x, y], { left, right, top, bottom }) {
  * If no part of the bottleneck is visible, says how much of it lies beyond the edge where most of it is.
  * @param {number[][]} points the middles of its arcs, in pixels of the picture
  * @param {Room} room the free part of the picture
+ * @param {DOMRect | undefined} chosen the box of what is selected, which the button does not cover
  */
-export function hintBeyond(points, room) {
+export function hintBeyond(points, room, chosen) {
   const edges = points.map((point) => edgeOf(point, room)), out = edges.flatMap((edge) => edge ?? []), hint = at("beyond");
   hint.hidden = !out.length || out.length < edges.length;
   if (hint.hidden) return;
@@ -33,7 +34,10 @@ export function hintBeyond(points, room) {
   hint.textContent = edge === "right" ? `${text} ${SIGNS[edge]}` : `${SIGNS[edge]} ${text}`;
   const { offsetWidth: wide, offsetHeight: high } = hint, [x, y] = [(room.left + room.right) / 2, (room.top + room.bottom) / 2];
   const left = edge === "left" ? room.left : edge === "right" ? room.right - wide : x - wide / 2;
-  const top = edge === "top" ? room.top : edge === "bottom" ? room.bottom - high : y - high / 2;
+  const middle = edge === "top" ? room.top : edge === "bottom" ? room.bottom - high : y - high / 2;
+  const isFree = (/** @type {number} */ from) => !chosen || from > chosen.bottom || from + high < chosen.top || left > chosen.right
+    || left + wide < chosen.left;
+  const top = [middle, room.top, room.bottom - high].find(isFree) ?? middle;
   hint.style.setProperty("left", `${left}px`);
   hint.style.setProperty("top", `${top}px`);
 }

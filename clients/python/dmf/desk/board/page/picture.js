@@ -22,7 +22,7 @@ import { paint } from "./painting.js";
 import { formOf, freePart } from "./room.js";
 import { ask, present } from "./state.js";
 import { now as shown, put } from "./store.js";
-import { beginView, fit, isFitted, reveal, scale, see, seenBox, zoom } from "./view.js";
+import { beginView, fit, isFitted, scale, see, seenBox, zoom } from "./view.js";
 
 /** The factor by which a button or a key enlarges it. */
 export const LARGER = 1.4;
@@ -150,18 +150,8 @@ export function mark() {
   label();
 }
 
-/** Moves the picture to the selection, after drawing it if it was not drawn. */
-export async function revealChosen() {
-  const chosen = theChoice();
-  if (chosen && !partOf(chosen) && !isGround()) {
-    const node = chosen.node ?? (await ask(`arc?number=${chosen.arc}`, undefined, true))?.tail_node;
-    if (!node || chosen !== theChoice()) return;
-    await showNear(node);
-    if (chosen !== theChoice()) return;
-  }
-  const box = partOf(chosen)?.getBBox() ?? groundBox(".chosen");
-  if (box) reveal(box);
-}
+/** Returns the usual length of lines, in pixels. */
+export const usualPixels = () => usual * scale();
 
 /**
  * Arranges the labels before the next frame. If the view has moved to another part and stays there, that part gets its numbers.
@@ -174,7 +164,8 @@ function label(isGliding = false) {
     at("picture").style.setProperty("--thicker", String(by));
     at("picture").style.setProperty("--scale", String(scale()));
     pointArrows(arrows, scale(), by);
-    hintBeyond(limits.map(([x, y]) => [(x - seenBox().x) * scale(), (y - seenBox().y) * scale()]), freePart());
+    hintBeyond(limits.map(([x, y]) => [(x - seenBox().x) * scale(), (y - seenBox().y) * scale()]), freePart(),
+      at("picture").querySelector(".chosen")?.getBoundingClientRect());
     arrangeLabels(labels, arrows, by);
     paint();
   });
