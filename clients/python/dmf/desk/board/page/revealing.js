@@ -4,8 +4,9 @@
  * @typedef {import("./view.js").Box} Box
  */
 import { theChoice } from "./choice.js";
+import { partOf } from "./drawing.js";
 import { groundBox, isGround } from "./ground.js";
-import { partOf, showNear, usualPixels } from "./picture.js";
+import { showNear, usualPixels } from "./picture.js";
 import { ask } from "./state.js";
 import { fit, freeBox, move, reveal, scale, zoom } from "./view.js";
 
