@@ -24,6 +24,14 @@ ASKED: dict[str, Asked] = {
         ],
         {"columns": {"capacity": "Trucks per day"}},
     ),
+    # What a spreadsheet makes of 5.3 and 7.3; and years.
+    "tag-und-monat.csv": Asked(
+        [
+            "line 2, column 'Kapazität': '05. Mrz' is a date, not a number",
+            "line 3, column 'Kapazität': '07. Mrz' is a date, not a number",
+        ]
+    ),
+    "built.csv": Asked([WHICH, "--capacity Built  as in 2001, 1999"]),
     "normal-peak.csv": Asked(
         [WHICH, "--capacity Normal", "--capacity Peak"], {"columns": {"capacity": "Peak"}}
     ),

@@ -68,6 +68,10 @@ READ: dict[str, Read] = {
     "start-end-length-qmax.csv": Read(
         "from 'Start node', to 'End node', capacity 'Q max [m³/h]' (m³/h); kept: 'Length (m)'"
     ),
+    # What stands where names usually do: percentages, dates and sums.
+    "load-cells.csv": Read("from 'From', to 'To', capacity 'Capacity'; kept: 'Load'"),
+    "inspected.csv": Read("from 'From', to 'To', capacity 'Capacity'; kept: 'Last looked at'"),
+    "running-total.csv": Read("from 'From', to 'To', capacity 'Capacity'; kept: 'Total'"),
     "us-ds.csv": Read("from 'us_node', to 'ds_node', capacity 'cap_lps' (lps); kept: 'len_m'"),
     "node-1-2.csv": Read("from 'Node 1', to 'Node 2', capacity 'Max flow'; kept: 'Diameter'"),
     "knoten-von-bis.csv": Read(

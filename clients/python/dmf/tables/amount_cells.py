@@ -7,12 +7,24 @@ from decimal import Decimal
 
 from ..quantity import COMMA, POINT, readings
 from .sheet import Exact
+from .titles import folded
 
 _WITH_UNIT = re.compile(r"(.*?[0-9.,])\s+([^\s\d.,'+-][^\d]*(?:[23\xb2\xb3][^\d]*)?)", re.DOTALL)
 _DATE = re.compile(
     r"[0-9]{1,4}[./-](?:[0-9]{1,2}|[^\W\d]{3,9})[./-][0-9]{2,4}(?:[ T][0-9:.]+)?"
     r"|[0-9]{4}-[0-9]{2}-[0-9]{2}.*"
     r"|[0-9]{1,2}\.? [^\W\d]{3,9}\.?,? [0-9]{2,4}"
+)
+# A day without a year, as spreadsheets make one of 5.3 or 3-5.
+_DAY = re.compile(
+    r"[0-9]{1,2}[\s.-]+(?P<month>[^\W\d_]{3,10})\.?|(?P<first>[^\W\d_]{3,10})\.?[\s-]+[0-9]{1,2}"
+)
+_MONTHS = set(
+    "jan january januar janner janvier janv enero ene feb february februar fevrier fev febrero mar "
+    "march marz mrz mars marzo apr april avril avr abril abr may mai mayo jun june juni juin junio "
+    "jul july juli juillet juil julio aug august aout agosto ago sep sept september septembre "
+    "septiembre oct october okt oktober octobre octubre nov november novembre noviembre dec "
+    "december dez dezember decembre dic diciembre".split()
 )
 _ENDLESS = re.compile(
     r"[+-]?(?:nan|inf(?:inity)?|\u221e|unlimited|unendlich|unbegrenzt)", re.IGNORECASE
@@ -21,13 +33,19 @@ _ENDLESS = re.compile(
 
 def no_number(text: str) -> str:
     """Return why a text is not a number, and what would do."""
-    if _DATE.fullmatch(text):
+    if is_date(text):
         return "is a date, not a number"
     if _ENDLESS.fullmatch(text):
         return "is not a number; where there is no limit, write a number that is large enough"
     if text[:1] == "=" or text[:1] == "#" and text[1:2].isalpha():
         return "is a formula or its error, not a number"
     return "is not a number; write one as 47.3 or 47,3"
+
+
+def is_date(text: str) -> bool:
+    """Return True if a text is a date, or a day of a month."""
+    day = _DAY.fullmatch(text)
+    return bool(_DATE.fullmatch(text) or day and folded(day["month"] or day["first"]) in _MONTHS)
 
 
 # What stands in a cell that has no number.
@@ -66,6 +84,6 @@ def read_cell(cell: str) -> tuple[dict[str, Decimal], str]:
         return {POINT: number, COMMA: number}, ""
     text = cell.strip()
     found = readings(text)
-    if not found and (parts := _WITH_UNIT.fullmatch(text)):
+    if not found and (parts := _WITH_UNIT.fullmatch(text)) and not is_date(text):
         return readings(parts[1]), " ".join(parts[2].split())
     return found, ""

@@ -11,7 +11,7 @@ from ..quantity import LARGEST, plain_text
 from ..text.spelling import cleaned, quoted_name
 from .amount_cells import is_limitless, no_number
 from .amount_columns import Amounts
-from .asides import MOST_WORDS, Aside, kind_of, told_aside
+from .asides import Aside, kind_of, told_aside
 from .headings import ARCS, PLACE_COLUMNS, Form, Layout
 from .line_ends import lines_of
 from .readers import (
@@ -29,7 +29,7 @@ from .readers import (
 from .row_states import RowStates, closed_rows, told_lines, told_states
 from .sheet import Cells, Exact, Faults, Rows, Sheet, is_blank, name_in
 from .table_file import ReadOptions
-from .titles import CAPACITY, HEAD, LIMIT, NAME, PLACE, TAIL
+from .titles import CAPACITY, HEAD, LIMIT, MOST_WORDS, NAME, PLACE, TAIL
 
 # What a missing capacity may be read as, beside 0.
 UNLIMITED_WORD = "unlimited"

@@ -10,17 +10,11 @@ from ..quantity import plain_text, readings
 from ..text.spelling import cleaned, quoted_name
 from .amount_cells import read_cell
 from .readers import Table
-from .titles import folded
+from .titles import names_total
 
 TOTAL, SUM, NOTE = "total", "sum", "note"
-# What a row of totals begins with.
-_TOTALS = set(
-    "total totals totale totaux sum sums summe summen gesamt gesamtsumme insgesamt somme suma "
-    "subtotal zwischensumme zeilensumme spaltensumme \u03c3".split()
-)
-_BEFORE_TOTALS = set("grand gran sub sous row column col".split())
-# How many words a cell that names a total may have, and how much of a note is told.
-MOST_WORDS, LONGEST_TOLD = 5, 60
+# How much of a note is told.
+LONGEST_TOLD = 60
 
 
 class Aside(NamedTuple):
@@ -47,15 +41,6 @@ def kind_of(row: Sequence[str], ends: Sequence[str], amount: str) -> str:
     if not any(ends) and readings(amount.strip()):
         return SUM
     return NOTE if len(cells) == 1 and not readings(cells[0]) else ""
-
-
-def names_total(cell: str) -> bool:
-    """Return True if a cell names a row or a column of totals."""
-    # The sign of a sum is the Greek letter, or one like it that is none.
-    words = folded(cell.replace("\u2211", "\u03a3")).split()
-    if words[:1] and words[0] in _BEFORE_TOTALS:
-        words = words[1:]
-    return 0 < len(words) <= MOST_WORDS and words[0] in _TOTALS
 
 
 def told_aside(aside: Aside, table: Table) -> Optional[str]:

@@ -45,6 +45,7 @@ from .titles import (
     is_other,
     is_rate,
     is_share,
+    names_total,
     paired,
     rivals_capacity,
     says_capacity,
@@ -379,7 +380,8 @@ class _Finder:
         ):
             return False
         is_amount = title.unit or says_capacity(title) or title.word in USUAL[CAPACITY]
-        return not is_amount and not is_other(title) and title.word not in OTHERS
+        is_remark = is_other(title) or title.word in OTHERS or names_total(title.text)
+        return not (is_amount or is_remark or self.sample.has_no_names(place))
 
     def layout_without_titles(self) -> Layout:
         """Return where the columns of a table without titles are: in their usual order, unless the

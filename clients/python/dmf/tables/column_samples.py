@@ -5,7 +5,7 @@ from __future__ import annotations
 from collections.abc import Sequence
 from dataclasses import dataclass
 
-from .amount_cells import is_missing
+from .amount_cells import is_date, is_missing
 from .title_row import is_number
 from .titles import Title, is_index
 
@@ -39,6 +39,11 @@ class ColumnSample:
         cells = [cell for cell in self.cells(place) if not cell.strip().endswith(("%", "\u2030"))]
         numbers = sum(map(is_number, cells))
         return numbers == 0 or 2 * numbers < len(cells)
+
+    def has_no_names(self, place: int) -> bool:
+        """Return True if all cells of a column are percentages or dates."""
+        cells = [cell.strip() for cell in self.cells(place)]
+        return bool(cells) and all(it.endswith(("%", "\u2030")) or is_date(it) for it in cells)
 
     def counts_rows(self, place: int) -> bool:
         """Return True if a column counts the rows."""

@@ -11,14 +11,13 @@ from typing import NamedTuple, Optional
 from ..errors import TableFault
 from ..quantity import readings
 from ..text.spelling import cleaned, quoted_name
-from .asides import names_total
 from .headings import PLACE_COLUMNS
 from .matrix_shapes import MOST_CELLS, TEXTS, Shapes
 from .matrix_words import counts_rows, meaning_of, names_people
 from .sheet import Faults, Rows
 from .table_file import ReadOptions
 from .title_row import MOST_ABOVE, column_number, has_units
-from .titles import DEMAND, HEAD, LIMIT, SUPPLY, TAIL, USUAL, folded
+from .titles import DEMAND, HEAD, LIMIT, SUPPLY, TAIL, USUAL, folded, names_total
 
 # What rows and columns are that are neither places nor say something of them.
 TOTAL, LEFT_OUT, UNITS, TITLES_AGAIN = "total", "left out", "units", "titles again"

@@ -11,7 +11,6 @@ from typing import NamedTuple, Optional
 from ..errors import TableFault
 from ..quantity import readings
 from ..text.spelling import cleaned, quoted_name
-from .asides import names_total
 from .column_question import ColumnQuestion
 from .headings import ARCS
 from .matrices import is_corner
@@ -20,7 +19,7 @@ from .setting_question import SettingQuestion
 from .sheet import Rows, Sheet, is_blank
 from .table_file import ReadOptions
 from .title_row import MOST_ABOVE, column_number, has_places
-from .titles import CAPACITY, HEAD, TAIL, Title, is_index, is_other, title_of
+from .titles import CAPACITY, HEAD, TAIL, Title, is_index, is_other, names_total, title_of
 
 # How many columns must have a mark before a table is looked at as a roster.
 LEAST_SHIFTS = 2

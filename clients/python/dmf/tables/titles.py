@@ -60,7 +60,7 @@ OTHERS = set(
     "cost costs kosten cout coste price preis length lange laenge longueur longitud distance"
     " diameter durchmesser dn diametre diametro x y z lat lon latitude longitude remark remarks"
     " bemerkung bemerkungen comment comments kommentar note notes notiz remarque observacion year"
-    " jahr baujahr".split()
+    " jahr baujahr date datum fecha built gebaut".split()
 )
 
 
@@ -176,6 +176,15 @@ _FLAGS = {
     ),
 }
 FLAGS = {title: kind for kind, titles in _FLAGS.items() for title in titles.split("|")}
+
+# What a row of totals begins with.
+_TOTALS = set(
+    "total totals totale totaux sum sums summe summen gesamt gesamtsumme insgesamt somme suma "
+    "subtotal zwischensumme zeilensumme spaltensumme \u03c3".split()
+)
+_BEFORE_TOTALS = set("grand gran sub sous row column col".split())
+# How many words a cell that names a total may have, and how many a message lists.
+MOST_WORDS = 5
 
 # Units that stand at the end of a title without brackets.
 _UNITS = _words(
@@ -337,6 +346,15 @@ def is_other(title: Title) -> bool:
 def is_index(title: Title) -> bool:
     """Return True if a title can be that of the numbers of rows."""
     return not title.word or not _INDEX.isdisjoint(title.words)
+
+
+def names_total(cell: str) -> bool:
+    """Return True if a cell names a row or a column of totals."""
+    # The sign of a sum is the Greek letter, or one like it that is none.
+    words = folded(cell.replace("\u2211", "\u03a3")).split()
+    if words[:1] and words[0] in _BEFORE_TOTALS:
+        words = words[1:]
+    return 0 < len(words) <= MOST_WORDS and words[0] in _TOTALS
 
 
 def says_state(title: Title, role: str) -> bool:
