@@ -229,6 +229,30 @@ def test_equal_cells_ask_nothing(tmp_path: Path) -> None:
         assert network.solve().value == 20
 
 
+@pytest.mark.parametrize(
+    "above, value", [("20,40", 60), ("20 t,40 t", 60), ("20,x", 65), ("x,x", 75), ("20,", None)]
+)
+def test_amounts_above_titles(tmp_path: Path, above: str, value: int | None) -> None:
+    """With units, and without limits. What arrives is at most 30 at B and 45 at C, 20 from A and 25
+    from D."""
+    text = f"Demand,{above}\nfrom\\to,B,C\nA,30,20\nD,,25\n"
+    if value is None:
+        assert "'Demand' stands above the titles" in told_of(text)
+        return
+    with read_text(tmp_path, text, source=["A", "D"]) as network:
+        assert network.solve().value == value
+
+
+def test_faults_above_titles() -> None:
+    """What is no amount has its cell; a title of several columns is left out."""
+    below = "from\\to,B,C\nA,1,2\n"
+    told = told_of(f"Demand,50%,60%\n{below}")
+    assert "line 1, column 'B': '50%' is not a number" in told and "column 'C': '60%'" in told
+    ends = TableOptions(source=["A"], sink=["B", "C"])
+    notes = subject_of(ends, "t.csv", f"Demand,Towns,\n{below}".encode()).notes
+    assert "what stands above is left out: 'Demand'" in notes[1]
+
+
 def test_numbers_above_titles() -> None:
     """One number of several, and numbers that nobody named, are asked for; a day is left out."""
     below = "from\\to,B,C\nA,1,2\n"

@@ -9,11 +9,12 @@ from dataclasses import dataclass, field
 from typing import NamedTuple, Optional
 
 from ..errors import TableFault
-from ..quantity import readings
 from ..text.spelling import cleaned, quoted_name
+from .amount_cells import is_limitless, read_cell
 from .headings import PLACE_COLUMNS
 from .matrix_shapes import MOST_CELLS, TEXTS, Shapes
 from .matrix_words import counts_rows, meaning_of, names_people
+from .roster_words import is_cross
 from .sheet import Faults, Rows
 from .table_file import ReadOptions
 from .title_row import MOST_ABOVE, column_number, has_units
@@ -67,12 +68,14 @@ class Matrix:
         """Take a row above the titles if its numbers may say something of places. Return True if
         so."""
         name = next(filter(None, map(cleaned, reversed(row[: self.corner + 1]))), "")
-        begin = self.corner + 1
-        found = {begin + at for at, cell in enumerate(row[begin:]) if readings(cell.strip())}
+        begin, meaning = self.corner + 1, meaning_of(name)
+        kind = meaning.kind if meaning else ""
+        # What is no amount after all is told as a fault of its cell.
+        is_amount = _may_be_amount if kind else _is_number
+        found = {begin + at for at, cell in enumerate(row[begin:]) if is_amount(cell)}
         titled = {place for place in self.places() if place >= begin}
         lines_up = found <= titled and len(found) >= min(2, len(titled))
-        meaning = meaning_of(name)
-        if not found or counts_rows(name) or not (lines_up or meaning and meaning.kind):
+        if not found or counts_rows(name) or not (lines_up or kind):
             return False
         self.names[line], self.above[line] = name, lines_up
         return True
@@ -86,6 +89,15 @@ class Matrix:
         """Return the columns of a kind as messages name them."""
         places = [place for place, it in self.columns.items() if it == kind]
         return [f"the column {quoted_name(self.titles[place])}" for place in places]
+
+
+def _is_number(cell: str) -> bool:
+    return bool(read_cell(cell)[0])
+
+
+def _may_be_amount(cell: str) -> bool:
+    """Return True if a cell has a digit, or says that something is without a limit."""
+    return any(map(str.isdigit, cell)) or is_cross(cell) or is_limitless(cell)
 
 
 def corner_in(sample: Rows, *, is_asked: bool) -> Optional[Corner]:
@@ -130,10 +142,10 @@ def _filled(row: Sequence[str]) -> list[str]:
 def _stands_above(row: Sequence[str], below: Sequence[Sequence[str]]) -> bool:
     """Return True if a row has numbers, and the next one, without any, has the titles."""
     return (
-        all(map(readings, _filled(row)))
+        all(map(_may_be_amount, _filled(row)))
         and bool(below)
         and len(_filled(below[0])) > 1
-        and not any(map(readings, _filled(below[0])))
+        and not any(map(_is_number, _filled(below[0])))
         and not has_units(below[0])
     )
 
