@@ -37,7 +37,7 @@ class Overview:
         self.look()
 
     def look(self) -> None:
-        """Check whether most positions are known. Otherwise most of the drawing would be invented."""
+        """Check whether most positions are known. Otherwise most of a drawing would be invented."""
         known = sum(node in self._places.spots for node in self._nodes)
         self._is_known = 2 * known > len(self._nodes)
 
