@@ -87,7 +87,7 @@ def run(name: str, main: Callable[[], int]) -> NoReturn:
 
 
 def _exit(status: int) -> NoReturn:
-    """Exit at once, and leave no program behind."""
+    """End the tool at once, and leave no program behind."""
     kill_all()
     os._exit(status)
 
