@@ -43,7 +43,7 @@ return rows.map((row) => [...row.cells].slice(0, 3).map((cell) => cell.textConte
 # The same of the labels of a comparison's picture, which lies in a card that scrolls.
 COMPARED = (
     LABELS.replace("#picture", "#compare-picture")
-    .replace('["head", "foot", "panel", "fold"]', "[]")
+    .replace('["head", "foot", "moves", "panel", "fold"]', "[]")
     .replace("left: 0, top: 0", "left: -1e6, top: -1e6")
     .replace("right: innerWidth, bottom: innerHeight", "right: 1e6, bottom: 1e6")
 )
