@@ -183,6 +183,12 @@ def test_titles_that_are_hardly_places(name: str) -> None:
         assert f"'{name}' stands above the titles, and has numbers: give --needs" in told
 
 
+@pytest.mark.parametrize("name", ["Target 1", "Day 1", "Reserve 12", "Row A", "Station 3"])
+def test_numbered_places(tmp_path: Path, name: str) -> None:
+    with read_text(tmp_path, f"from\\to,{name}\nA,9\nB,4\n", source=["A", "B"]) as network:
+        assert network.solve().value == 13
+
+
 @pytest.mark.parametrize("name", ["Needed", "Required per day", "Staff needed", "erforderlich"])
 def test_titles_of_needs(tmp_path: Path, name: str) -> None:
     for text in f"{name},4\nfrom\\to,B\nA,9\n", f"from\\to,B\nA,9\n{name},4\n":

@@ -97,9 +97,12 @@ def meaning_of(name: str) -> Meaning | None:
     ]
     if kinds:
         return Meaning(kinds[0] if len(kinds) == 1 else "", False)
-    is_other = is_known and any(len(it) > 1 and it in _STATISTICS | OTHERS for it in words)
+    # Places of a kind are numbered, such as `Target 1`; a longer number may be a year.
+    is_numbered = any(word.isdecimal() and len(word) < 4 for word in words)
+    is_said = any(len(it) > 1 and it in _STATISTICS | OTHERS for it in words)
     is_period = bool(words & _PERIODS) and _BESIDE >= words
     is_mean = title.text[:1] in _MEANS and not title.text[1:2].isalpha()
+    is_other = is_known and is_said and not is_numbered
     is_no_place = is_other or is_period or is_mean or counts_rows(name)
     return Meaning("", False) if is_no_place or is_share(title) or is_least(title) else None
 
