@@ -161,7 +161,10 @@ def test_map_contents(tmp_path: Path) -> None:
         ]
         fault = view["faults"][0]
         assert "is a POINT, not a line" in fault["text"]
-        assert fault["text"].startswith("feature 1: ") and view["preview"]["lines"][1] == 2
+        assert (
+            fault["text"].startswith("feature 1, column 'WKT': ")
+            and view["preview"]["lines"][1] == 2
+        )
 
 
 def test_parts(tmp_path: Path) -> None:

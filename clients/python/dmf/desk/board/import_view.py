@@ -205,7 +205,8 @@ def _cell_fault_view(fault: TableFault, path: str) -> Json:
         lines.append("..")
     word = "" if names else f"line{'s' * (len(lines) > 1)} "
     more = f" (also in {word}{', '.join(lines)})" if lines else ""
-    name = f"{names[fault.line]}: " if fault.line in names else ""
+    column = f", column {fault.column_name}" if fault.column_name else ""
+    name = f"{names[fault.line]}{column}: " if fault.line in names else ""
     return _fault_view(name + fault.reason + more, fault.line, fault.column if fault.line else 0)
 
 
