@@ -167,6 +167,23 @@ def test_map_contents(tmp_path: Path) -> None:
         )
 
 
+def test_needs_of_a_matrix(tmp_path: Path) -> None:
+    """A row that may have the needs is offered as that. The Lake sends 50 over the Mill, of which 5
+    stay, and 25 over the Hill."""
+    office = Path(__file__).parent / "tables" / "office"
+    with board("--import", cwd=tmp_path) as it:
+        for name, row in ("matrix-orders.csv", "Orders"), (
+            "matrix-staff-above.csv",
+            "Staff per day",
+        ):
+            view = sent(it, name, (office / name).read_bytes())[1]
+            assert "--needs" in view["faults"][0]["text"] and view["answer"] is None
+            [setting] = [it for it in view["settings"] if it["option"] == "needs"]
+            assert setting["choices"] == [["", "not said"], [row, row]]
+            view = asked(it, "import", {"options": {**nothing_said(), "needs": row}})[1]
+            assert view["answer"]["said"].startswith("75 can be sent from Lake")
+
+
 def test_parts(tmp_path: Path) -> None:
     """A part of a shapefile names the file that is read; what was missing beside the .shp is taken
     for it once it is there; and parts that come with a .shp are kept alone."""

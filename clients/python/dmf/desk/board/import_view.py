@@ -5,6 +5,7 @@ from __future__ import annotations
 
 import argparse
 import os
+import re
 from collections.abc import Sequence
 from dataclasses import dataclass, field
 from itertools import islice
@@ -142,12 +143,21 @@ def settings_view(reading: Reading, shown: Preview) -> list[Json]:
     if reading.words.tolerance or any(it.title == START_OF_LINE for it in shown.columns):
         settings.append(("tolerance", LABELS["tolerance"], []))
     asked = getattr(reading.fault, "option", "")
+    named = [] if reading.words.needs else _named_needs(str(reading.fault or ""))
     for option in ROSTER_SETTINGS:
-        if option == asked or getattr(reading.words, option):
+        if option == "needs" and named:
+            choices = [("", "not said"), *[(name, name) for name in named]]
+            settings.append((option, LABELS[option], choices))
+        elif option == asked or getattr(reading.words, option):
             settings.append((option, LABELS[option], []))
     if not sheets:
         settings.append(("encoding", "Encoding", []))
     return [{"option": it, "label": label, "choices": some} for it, label, some in settings]
+
+
+def _named_needs(told: str) -> list[str]:
+    """Return the rows and columns of a matrix that faults name as what may be its needs."""
+    return list(dict.fromkeys(re.findall(r"--needs '([^'\\]+)'", told)))
 
 
 # The settings of rosters, each of which is shown when it is asked for, or was said.
