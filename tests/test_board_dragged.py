@@ -61,7 +61,7 @@ def test_dragged(driver: Any, tmp_path: Path) -> None:
     with board(*city(tmp_path, 20)) as it:
         show(driver, 1280, "light")
         page = Page(driver, it.address)
-        for _ in range(3):
+        for _ in range(4):
             page.press("Larger")
         x, y, scale = view(page)
         drawn, canvas, place, larger = driver.execute_script(GESTURE, "drag", 50, 5, 2)

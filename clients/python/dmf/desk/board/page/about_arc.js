@@ -73,7 +73,7 @@ export function aboutArc(arc) {
   const about = [make("h3", arc.short), ends(arc)];
   if (arc.closed) {
     const again = button("Open it again", () => act({ what: "open", arc: arc.number }, `${arc.short} is open`), "plain");
-    return [...about, chips([["closed"]]), facts([{ term: "Carried", value: "0", act: again }])];
+    return [...about, chips([["closed"]]), facts([{ term: "Flow", value: "0", act: again }])];
   }
   const nothing = arc.flow === "0" && "nothing flows";
   const close = button("Close it", () => act({ what: "close", arc: arc.number }, `${arc.short} is closed`), "plain");
