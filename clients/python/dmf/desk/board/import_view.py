@@ -6,7 +6,7 @@ from __future__ import annotations
 import argparse
 import os
 import re
-from collections.abc import Sequence
+from collections.abc import Iterator, Sequence
 from dataclasses import dataclass, field
 from itertools import islice
 from typing import Any, Optional
@@ -113,6 +113,10 @@ def preview_view(shown: Preview) -> Json:
     }
 
 
+# An option that a page sets, its label, and its choices, if it is no text.
+Setting = tuple[str, str, Sequence[tuple[str, str]]]
+
+
 def settings_view(reading: Reading, shown: Preview) -> list[Json]:
     """Return the settings that a file of this kind reads."""
     stages = reading.stages
@@ -122,7 +126,7 @@ def settings_view(reading: Reading, shown: Preview) -> list[Json]:
     found = f"as found: a {NAMES[sign]}" if sign else "as found"
     path = split_path(reading.words.path)[0]
     sheets = [sheet.name for sheet in stages.sheets if sheet.path != path]
-    settings: list[tuple[str, str, Sequence[tuple[str, str]]]] = []
+    settings: list[Setting] = []
     if len(sheets) > 1:
         chosen = f"as found: {stages.sheet.name}" if stages.sheet else "not said"
         settings.append((SHEET, "Sheet", [("", chosen), *[(name, name) for name in sheets]]))
@@ -142,22 +146,24 @@ def settings_view(reading: Reading, shown: Preview) -> list[Json]:
         settings.append((option, LABELS[option], [("", "not said"), *choices] if choices else []))
     if reading.words.tolerance or any(it.title == START_OF_LINE for it in shown.columns):
         settings.append(("tolerance", LABELS["tolerance"], []))
-    asked = getattr(reading.fault, "option", "")
-    named = [] if reading.words.needs else _named_needs(str(reading.fault or ""))
-    for option in ROSTER_SETTINGS:
-        if option == "needs" and named:
-            choices = [("", "not said"), *[(name, name) for name in named]]
-            settings.append((option, LABELS[option], choices))
-        elif option == asked or getattr(reading.words, option):
-            settings.append((option, LABELS[option], []))
+    settings += _roster_settings(reading)
     if not sheets:
         settings.append(("encoding", "Encoding", []))
     return [{"option": it, "label": label, "choices": some} for it, label, some in settings]
 
 
-def _named_needs(told: str) -> list[str]:
-    """Return the rows and columns of a matrix that faults name as what may be its needs."""
-    return list(dict.fromkeys(re.findall(r"--needs '([^'\\]+)'", told)))
+def _roster_settings(reading: Reading) -> Iterator[Setting]:
+    """Yield the settings of rosters that are asked for, or were said; and that of needs if faults
+    name rows or columns of a matrix that may have them."""
+    asked, told = getattr(reading.fault, "option", ""), str(reading.fault or "")
+    for option in ROSTER_SETTINGS:
+        is_said = bool(getattr(reading.words, option))
+        names = re.findall(rf"--{option} '([^'\\]+)'", told) if not is_said else []
+        if names:
+            rows = [("", "not said"), *[(name, name) for name in dict.fromkeys(names)]]
+            yield option, LABELS[option], rows
+        elif option == asked or is_said:
+            yield option, LABELS[option], []
 
 
 # The settings of rosters, each of which is shown when it is asked for, or was said.
