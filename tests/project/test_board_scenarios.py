@@ -455,6 +455,12 @@ def test_it_fits(driver: Any, water: Board, writes: bool) -> None:
         assert min(driver.execute_script(heights)) >= 11
         count, wrong = driver.execute_script(COMPARED)
         assert count > 15 and wrong == [], wrong[:5]
+    # In a window of this height nothing has to be scrolled to.
+    driver.execute_cdp_cmd(
+        "Emulation.setDeviceMetricsOverride",
+        {"width": 1600, "height": 1300, "deviceScaleFactor": 1, "mobile": False},
+    )
+    page.settle()
     left, top, wide, high = driver.execute_script(
         "const it = document.getElementById('compared-shown').getBoundingClientRect(); return "
         "[it.left, it.top + scrollY, it.width, it.height]"
