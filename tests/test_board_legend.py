@@ -249,7 +249,8 @@ const box = (it) => { const { left, top, right, bottom } = it.getBoundingClientR
 const list = document.querySelector("ul[aria-label=Legend]");
 return [box(list.closest(".card")), box(document.querySelector("label select")),
   [...list.querySelectorAll("button")].map(box),
-  [...document.querySelectorAll("[aria-label='What the picture shows'] button")].map(box)];
+  [...document.querySelectorAll("[aria-label='What the picture shows'] button")].filter((it) =>
+    it.checkVisibility()).map(box)];
 """
 
 

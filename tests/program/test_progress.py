@@ -188,7 +188,7 @@ def test_session(tmp_path: Path) -> None:
     tells of each solve, from its first path on. On one terminal the line is erased before each
     reply, and the replies are the same."""
     long = str(tmp_path / "long.max")
-    Path(long).write_text(problem_of(100, 600, 3, 1000, 1990))
+    Path(long).write_text(problem_of(100, 900, 3, 1000, 1990))
     silent = piped(["session", long], COMMANDS)
     assert (silent.returncode, silent.stderr) == (
         0,
