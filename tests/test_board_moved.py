@@ -225,6 +225,24 @@ def test_kept(tmp_path: Path) -> None:
     assert "moved" not in json.loads(path.read_text())
 
 
+def test_a_map_takes_moves_back(tmp_path: Path) -> None:
+    """A map that is given later says what it takes back of what was moved by hand."""
+    path, map_table = project(tmp_path), tmp_path / "map.csv"
+    with board("--keep", str(tmp_path / "pipes.csv")) as it:
+        spots(it)
+        for name in "Mill", "Market":
+            assert move(it, node_of(it, name), 300, -50)["kept"] == path.name
+        assert it.end() == 130
+    map_table.write_text("place,x,y\nReservoir,0,0\nMill,4,1\nMarket,5,2\nHarbour,9,2\n")
+    for told in ("the map takes back what was moved by hand: Mill and Market", ""):
+        with board("--map", str(map_table), str(path)) as it:
+            spots(it)
+            it.process.send_signal(2)
+            said = it.process.communicate(timeout=60)[1]
+        assert told in said and ("by hand" in said) == bool(told)
+    assert "moved" not in json.loads(path.read_text())
+
+
 def test_kept_later(tmp_path: Path) -> None:
     """Where places lie is kept too if a project is made after they were moved."""
     path = project(tmp_path)

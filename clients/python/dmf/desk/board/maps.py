@@ -16,6 +16,8 @@ from ...tables.sheet import Faults, Sheet, naming
 from ...tables.table_file import TableFile
 from ...tables.titles import PLACE, USUAL, title_of
 from ...text.spelling import cleaned, quoted_name
+from ...text.table_comments import listed
+from ..project.scenarios import Scenarios
 from ..workspace import Desk
 from .layout import Spot
 
@@ -160,6 +162,9 @@ def _notes(desk: Desk, given: Map, count: int) -> Iterator[str]:
     unknown = len(given.spots) - count
     if unknown:
         yield f"{unknown} places of the map are none of the network"
+    project = Scenarios.of(desk)
+    if project and project.project.moved:
+        yield f"the map takes back what was moved by hand: {listed(project.project.moved)}"
 
 
 def _to_points(spots: Mapping[int, Spot], is_globe: bool) -> Iterator[tuple[int, Spot]]:
