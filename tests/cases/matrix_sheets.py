@@ -49,6 +49,32 @@ LAGO: Sequence[Mapping[str, Any]] = [{}, {"source": ["Lago"]}]
 FOUND_OR_ASKED: Sequence[Mapping[str, Any]] = [{}, {"matrix": True}]
 ENGLISH = valley("Lake", "Mill", "Hill", "Town")
 GERMAN = valley("See", "Mühle", "Berg", "Stadt")
+
+
+def row_of_needs(name: str, line: int) -> list[Matrix]:
+    """The answers about a matrix of the valley with a row that may be one of needs: it is, or it is
+    left out."""
+    return [
+        Matrix(
+            f"demands from the row '{name}' (line {line})",
+            ENGLISH,
+            {"Lake": None},
+            {"Mill": 5, "Hill": 10, "Town": 60},
+            75,
+            given={"needs": name},
+        ),
+        Matrix(
+            "to the titles of the 3 other columns; empty",
+            ENGLISH,
+            {"Lake": None},
+            {"Town": None},
+            65,
+            [f"left out, as asked: the row '{name}' (line {line})"],
+            given={"ignore": [name]},
+        ),
+    ]
+
+
 MATRICES: dict[str, Sequence[Matrix]] = {
     # The Lake sends 75: 50 over the Mill, of which 5 stay, 40 go to the Town and 5 to the Hill.
     "matrix-demand.csv": [
@@ -230,25 +256,7 @@ MATRICES: dict[str, Sequence[Matrix]] = {
         )
     ],
     # What asks without an option.
-    "matrix-staff-above.csv": [
-        Matrix(
-            "demands from the row 'Staff per day' (line 1)",
-            ENGLISH,
-            {"Lake": None},
-            {"Mill": 5, "Hill": 10, "Town": 60},
-            75,
-            given={"needs": "Staff per day"},
-        ),
-        Matrix(
-            "to the titles of the 3 other columns; empty",
-            ENGLISH,
-            {"Lake": None},
-            {"Town": None},
-            65,
-            ["left out, as asked: the row 'Staff per day' (line 1)"],
-            given={"ignore": ["Staff per day"]},
-        ),
-    ],
+    "matrix-staff-above.csv": row_of_needs("Staff per day", 1),
     "matrix-kennwert.csv": [
         Matrix(
             "to the titles of the 3 other columns; empty",
@@ -261,23 +269,7 @@ MATRICES: dict[str, Sequence[Matrix]] = {
         )
     ],
     "matrix-orders.csv": [
-        Matrix(
-            "demands from the row 'Orders' (line 5)",
-            ENGLISH,
-            {"Lake": None},
-            {"Mill": 5, "Hill": 10, "Town": 60},
-            75,
-            given={"needs": "Orders"},
-        ),
-        Matrix(
-            "to the titles of the 3 other columns; empty",
-            ENGLISH,
-            {"Lake": None},
-            {"Town": None},
-            65,
-            ["left out, as asked: the row 'Orders' (line 5)"],
-            given={"ignore": ["Orders"]},
-        ),
+        *row_of_needs("Orders", 5),
         # As a place, it gives the Mill 5 more and the Hill 10, and the Town 60.
         Matrix(
             "to the titles of the 3 other columns; empty",

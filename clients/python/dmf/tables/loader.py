@@ -15,32 +15,25 @@ from typing import Any, Optional
 from ..errors import OptionFault, TableFault
 from ..files import read_file, standard_input
 from ..quantity import Measure
-from ..text.lexical import display, fields, lines
+from ..text.lexical import fields, lines
 from ..text.problem_text import problem_in
-from ..text.spelling import MOST_TOLD, quoted_name
+from ..text.spelling import quoted_name
 from ..text.table_comments import TableComments, described, table_comments
-from .arcs_and_places import Term, read_arcs, read_places, terms_of
+from .arcs_and_places import read_arcs, read_places, terms_of
 from .file_kinds import FileKind, has_table, kind_of, refuse_settings, sheets_of
-from .headings import ARCS, PLACE_COLUMNS, STATES, Form, spoken
+from .headings import PLACE_COLUMNS, STATES, spoken
 from .matrix_arcs import matrix_tables
+from .missing_ends import complete
 from .other_columns import Extra, extra_in, extra_of, left_out
-from .problem_builder import (
-    KINDS,
-    BuiltProblem,
-    NetworkTables,
-    ends_alone,
-    net_of,
-    problem_text,
-    term_of,
-)
+from .problem_builder import KINDS, BuiltProblem, NetworkTables, net_of, problem_text, term_of
 from .readers import Table
 from .roster_arcs import roster_tables
 from .row_states import lead
 from .setting_question import answered
 from .sheet import Faults, Rows, Sheet, naming
+from .sheet_choice import arcs_sheet, only_sheet, sheet_of_name
 from .table_file import ReadOptions, TableFile
-from .title_row import fits
-from .titles import DEMAND, LIMIT, NAME, PLACE, SUPPLY
+from .titles import DEMAND, LIMIT, NAME, SUPPLY
 from .warnings import warnings
 
 # By the option of a table of places, what it says.
@@ -119,7 +112,7 @@ def load_tables(
         stages.file, stages.kind = file, kind_of(file)
         refuse_settings(file)
         stages.sheets = sheets_of(file)
-        stages.sheet, others = _arcs_sheet(file, stages.sheets, name)
+        stages.sheet, others = arcs_sheet(file, stages.sheets, name)
         if stages.watch:
             read = partial(_watched, stages.sheet.read, stages.watch)
             stages.sheet = replace(stages.sheet, read=read)
@@ -230,7 +223,7 @@ def _add_file(plan: NetworkTables, wanted: TableOptions, option: str) -> None:
     file = TableFile(wanted.read(told), told, wanted.encoding, wanted.reading, 2, wanted.read)
     with naming(told):
         sheets = sheets_of(file)
-        sheet = _of_name(file, sheets, name) if name else _only(sheets, name)
+        sheet = sheet_of_name(file, sheets, name) if name else only_sheet(sheets, name)
     _add_places(plan, sheet, PLACE_TABLES[option], wanted)
 
 
@@ -241,61 +234,6 @@ def _add_places(
         terms, headings = read_places(sheet, kinds, wanted.reading, plan.arcs.amounts)
     plan.terms += terms
     plan.headings += headings
-
-
-def _arcs_sheet(file: TableFile, sheets: Sequence[Sheet], name: str) -> tuple[Sheet, list[Sheet]]:
-    """Return the sheet of arcs out of those of a file, and those of places beside it."""
-    if len(sheets) == 1 and not name:
-        return sheets[0], []
-    places = [
-        sheet
-        for sheet in sheets
-        if _fits(sheet, Form((PLACE,), PLACE_COLUMNS)) and not _fits(sheet, ARCS)
-    ]
-    if name:
-        chosen = _of_name(file, sheets, name)
-    else:
-        fit = [sheet for sheet in sheets if _fits(sheet, ARCS)]
-        likely = fit or [sheet for sheet in sheets if sheet not in places] or sheets
-        chosen = _only(likely, name, option="sheet")
-    return chosen, [sheet for sheet in places if sheet is not chosen]
-
-
-def _fits(sheet: Sheet, form: Form) -> bool:
-    """Return True if the titles of a sheet tell all columns of a form that it needs."""
-    sample = sheet.sample()
-    return bool(sample.cells) and fits(sample, form)
-
-
-def _of_name(file: TableFile, sheets: Sequence[Sheet], name: str) -> Sheet:
-    """Return the sheet of a name, in whose case workbooks see no difference."""
-    if all("#" not in sheet.path for sheet in sheets):
-        raise TableFault(
-            f"{kind_of(file).what} has no sheets, and so none that is called {quoted_name(name)};"
-            " name the file alone"
-        )
-    found = {sheet.name.casefold(): sheet for sheet in reversed(sheets)}
-    if name.casefold() not in found:
-        raise TableFault(f"no sheet is called {quoted_name(name)}; the sheets are {_names(sheets)}")
-    return found[name.casefold()]
-
-
-def _only(sheets: Sequence[Sheet], name: str, option: str = "") -> Sheet:
-    """Return the sheet, if it is the only one. Otherwise the option settles which it is."""
-    if not sheets:
-        raise TableFault("no sheet of the workbook has a cell")
-    if len(sheets) > 1:
-        fault = TableFault(
-            f"which sheet is it? Name one after the file, as in {sheets[0].path}; the sheets are "
-            f"{_names(sheets)}"
-        )
-        fault.option, fault.answers = option, [(sheet.name, "") for sheet in sheets]
-        raise fault
-    return sheets[0]
-
-
-def _names(sheets: Sequence[Sheet]) -> str:
-    return ", ".join(quoted_name(sheet.name) for sheet in sheets)
 
 
 def names_terminals(words: argparse.Namespace) -> bool:
@@ -456,46 +394,3 @@ def subject_of(
     ):
         found.update(titles)
     return LoadedProblem(path, b"", noun, told, wanted.reading.raw_names, plan, found, net)
-
-
-def complete(plan: NetworkTables) -> list[str]:
-    """Add the source or the sink if the plan has none and just one place can be meant, and says so.
-    Raises a `TableFault` otherwise."""
-    notes = []
-    for kind, way in (SUPPLY, "leads to"), (DEMAND, "leads away from"):
-        if not plan.of_kind(kind):
-            place = _only_place(plan, kind, way)
-            plan.terms.append(Term(kind, place, None))
-            notes.append(
-                f"the {KINDS[kind]} is {quoted_name(place)}, the one place that nothing {way}"
-            )
-    return notes
-
-
-def _only_place(plan: NetworkTables, kind: str, way: str) -> str:
-    """Return the only place that arcs leave and none enters, or the other way round. Raises a
-    `TableFault` if there is not exactly one."""
-    table = plan.arcs
-    # Of two ways, each place is left and entered.
-    alone = ([], []) if plan.both_ways else ends_alone(table.tails, table.heads)
-    names = list(table.places)
-    found = [names[number - 1] for number in alone[0 if kind == SUPPLY else 1]]
-    taken = {term.place for kind in KINDS for term in plan.of_kind(kind)}
-    if len(found) == 1 and found[0] not in taken:
-        return found[0]
-    where = "does it flow from" if kind == SUPPLY else "does it flow to"
-    choice = found or names
-    listed = ", ".join(map(quoted_name, choice[:MOST_TOLD])) + (
-        ", .." if len(choice) > MOST_TOLD else ""
-    )
-    why = (
-        f"nothing {way} any of these: {listed}"
-        if found
-        else f"each place has something that {way} it; the places are {listed}"
-    )
-    many = ", as often as there are such places" if len(found) > 1 else ""
-    fault = TableFault(f'where {where}? {why}; say --{KINDS[kind]} "{display(choice[0])}"{many}')
-    fault.option, fault.answers = KINDS[kind], [
-        (place, "") for place in choice if place not in taken
-    ]
-    raise fault

@@ -15,7 +15,8 @@ from ..session.runners import chosen
 from ..state import NetworkState
 from .arcs_and_places import UNLIMITED_WORD, Term
 from .keywords import naming_keywords
-from .loader import TableOptions, complete, load_tables, plan_of_sheet, split_path
+from .loader import TableOptions, load_tables, plan_of_sheet, split_path
+from .missing_ends import complete
 from .other_columns import extra_of
 from .problem_builder import NetworkTables, net_of
 from .setting_question import amount_of, daily_of, shift_of, tanks_of, velocity_of
