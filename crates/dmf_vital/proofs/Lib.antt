@@ -22,3 +22,4 @@ pub mod Lost
 pub mod Second
 pub mod Ranking
 pub mod Entered
+pub mod Both

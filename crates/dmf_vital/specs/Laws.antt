@@ -1,6 +1,6 @@
 -- What is true of greatest values and of losses.
 -- Public: a public contract says no more than this.
-use Rattle.std.specs.Prelude.{ℕ, ◌≡◌, ◌≤◌, Bool, true, List, ◌∷◌}
+use Rattle.std.specs.Prelude.{ℕ, ◌≡◌, ◌≢◌, ◌+◌, ◌≤◌, Bool, true, List, ◌∷◌}
 use Rattle.dmf_state.specs.Flow.{flow_on, IsInnerNode}
 use Rattle.dmf_state.specs.Network.{Network, IsNetwork, arc_number, has_arc}
 use Rattle.dmf_state.specs.NetworkState.{NetworkState}
@@ -8,10 +8,10 @@ use Rattle.dmf_solver.specs.Change.{Close, Shut, Becomes}
 use Rattle.dmf_solver.specs.Greatest.{IsGreatest}
 use Rattle.dmf_vital.specs.GreatestValue.{IsGreatestValue}
 use Rattle.dmf_vital.specs.Kept.{HoldsTail, HoldsNode}
-use Rattle.dmf_vital.specs.Loss.{IsLoss, IsLossOfArc, IsLossOfNode, IsGainOfSecond, IsMostVital}
+use Rattle.dmf_vital.specs.Loss.{IsLoss, IsLossOfArc, IsLossOfNode, IsLossOfPair, IsGainOfSecond, IsMostVital}
 use Rattle.dmf_vital.specs.Through.{flow_through}
 use Rattle.dmf_vital.specs.Without.{without_arc, without_node, with_second}
-use Rattle.dmf_vital.specs.Worst.{AreWorst}
+use Rattle.dmf_vital.specs.Worst.{AreWorst, IsArcLoss}
 use Rattle.dmf_vital.specs.declared.worst.NumberedLoss.{NumberedLoss}
 
 -- ---- values and losses
@@ -81,11 +81,22 @@ abbrev pub HeldNodeFlowIsLost : Type 0
 HeldNodeFlowIsLost = (n : Network) (flows : List ℕ) (v : ℕ) (has : ℕ → Bool) → IsNetwork n → IsGreatest n flows → IsInnerNode n v
     → HoldsNode n flows v has → IsLossOfNode n v (flow_through n flows v)
 
+-- ---- the loss of two arcs
+
+-- Any two arcs have a loss,
+abbrev pub PairHasLoss : Type 0
+PairHasLoss = (n : Network) (i j : ℕ) → IsNetwork n → has_arc n i ≡ true → has_arc n j ≡ true → (loss : ℕ) × IsLossOfPair n i j loss
+
+-- which is at most the flow that both carry in a greatest flow.
+abbrev pub PairLossIsAtMostFlow : Type 0
+PairLossIsAtMostFlow = (n : Network) (flows : List ℕ) (i j loss : ℕ) → IsNetwork n → IsGreatest n flows → i ≢ j → IsLossOfPair n i j loss
+    → loss ≤ flow_on flows i + flow_on flows j
+
 -- ---- the worst
 
 -- The first of the worst arcs is a most vital arc.
 abbrev pub WorstIsMostVital : Type 0
-WorstIsMostVital = (n : Network) (most : ℕ) (first : NumberedLoss) (rest : List NumberedLoss) → AreWorst (IsLossOfArc n) most (first ∷ rest)
+WorstIsMostVital = (n : Network) (most : ℕ) (first : NumberedLoss) (rest : List NumberedLoss) → AreWorst (IsArcLoss n) most (first ∷ rest)
     → IsMostVital n first.number first.loss
 
 -- ---- the gain by a second arc

@@ -12,3 +12,4 @@ pub mod Chains
 pub mod Tree
 pub mod Shifted
 pub mod Entering
+pub mod Rest

@@ -5,7 +5,7 @@ use Rattle.std.specs.Prelude.{ℕ, ◌≡◌, ◌+◌, ◌≤◌, true}
 use Rattle.dmf_state.specs.Flow.{IsInnerNode}
 use Rattle.dmf_state.specs.Network.{Network, has_arc}
 use Rattle.dmf_vital.specs.GreatestValue.{IsGreatestValue}
-use Rattle.dmf_vital.specs.Without.{without_arc, without_node, with_second}
+use Rattle.dmf_vital.specs.Without.{without_arc, without_node, without_pair, with_second}
 
 -- The greatest value of network `m` is less than that of network `n` by this loss.
 pub record IsLoss (n m : Network) (loss : ℕ) : Type 0 where
@@ -18,6 +18,10 @@ pub record IsLoss (n m : Network) (loss : ℕ) : Type 0 where
 -- There is an arc number `j`, and this is lost without it.
 abbrev pub IsLossOfArc : Network → ℕ → ℕ → Type 0
 IsLossOfArc n j loss = (has_arc n j ≡ true) × IsLoss n (without_arc n j) loss
+
+-- There are arcs number `i` and `j`, and this is lost without both.
+abbrev pub IsLossOfPair : Network → ℕ → ℕ → ℕ → Type 0
+IsLossOfPair n i j loss = (has_arc n i ≡ true) × (has_arc n j ≡ true) × IsLoss n (without_pair n i j) loss
 
 -- `v` is a node other than the source and the sink, and this is lost without it.
 abbrev pub IsLossOfNode : Network → ℕ → ℕ → Type 0

@@ -14,6 +14,10 @@ without_arc n j = with_arc n j (closed_arc (arc_number n j))
 abbrev pub shut_arc : ℕ → Arc → Arc
 shut_arc v arc = if arc.tail == v || arc.head == v then closed_arc arc else arc
 
+-- the network in which the arcs number `i` and `j` are closed
+abbrev pub without_pair : Network → ℕ → ℕ → Network
+without_pair n i j = without_arc (without_arc n i) j
+
 -- the network in which node `v` is shut: the arcs at it are closed
 abbrev pub without_node : Network → ℕ → Network
 without_node n v = record { nodes = n.nodes; source = n.source; sink = n.sink; arcs = map (shut_arc v) n.arcs }

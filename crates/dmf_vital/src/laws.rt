@@ -2,6 +2,7 @@ ghost use Rattle.dmf_vital.specs.Laws.{HasGreatestValue, HasOneGreatestValue, Ar
 ghost use Rattle.dmf_vital.specs.Laws.{ClosingLeavesOut, ShuttingLeavesOut};
 ghost use Rattle.dmf_vital.specs.Laws.{LossIsAtMostFlow, IdleArcLosesNothing, LoopLosesNothing, HeldFlowIsLost, SomeFlowIsLoss};
 ghost use Rattle.dmf_vital.specs.Laws.{NodeLossIsAtMostFlow, HeldNodeFlowIsLost};
+ghost use Rattle.dmf_vital.specs.Laws.{PairHasLoss, PairLossIsAtMostFlow};
 ghost use Rattle.dmf_vital.specs.Laws.{WorstIsMostVital, SecondHasGain, GainIsAtMostCapacity};
 
 /// The law that a network has one greatest value.
@@ -52,6 +53,12 @@ pub fn loss_is_flow()
 pub fn node_loss_is_flow()
     ensures at_most { NodeLossIsAtMostFlow }
     ensures held { HeldNodeFlowIsLost }
+{}
+
+/// The law that any two arcs have a loss together, at most what both carry in a greatest flow.
+pub fn pair_has_loss()
+    ensures some { PairHasLoss }
+    ensures at_most { PairLossIsAtMostFlow }
 {}
 
 /// The law that the first of the worst arcs is a most vital arc.

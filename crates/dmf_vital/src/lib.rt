@@ -3,10 +3,11 @@
 
 pub use laws::{
     arc_has_loss, closing_leaves_out, greatest_value_is_one, held_flow_is_lost,
-    idle_arc_loses_nothing, loss_is_flow, node_has_loss, node_loss_is_flow, second_has_gain,
-    shutting_leaves_out, worst_is_most_vital,
+    idle_arc_loses_nothing, loss_is_flow, node_has_loss, node_loss_is_flow, pair_has_loss,
+    second_has_gain, shutting_leaves_out, worst_is_most_vital,
 };
 pub use loss::{arc_losses, node_losses, value_without_arc, value_without_node};
+pub use pairs::{pair_losses, worst_pairs};
 pub use worst::{NumberedLoss, worst_arcs, worst_nodes};
 
 mod chains;
@@ -15,6 +16,7 @@ mod exits;
 mod hop;
 mod laws;
 mod loss;
+mod pairs;
 mod parts;
 mod push;
 mod ranks;
