@@ -1,48 +1,24 @@
--- From losses to the rows of all parts, and to those of the worst.
-use Rattle.std.proofs.Common.{ℕ, ◌≡◌, ◌+◌, ◌-◌, ◌<◌, ◌≤◌, List, [], ◌∷◌, ap, arith, filter, get_or, length, map, pos, refl, subst, sym, Option, None, Some, ⊎_elim, ◌∙◌}
-use Rattle.std.proofs.lemmas.Bool.{and_parts, cases_eq, eqb-false, not-true}
+-- From losses to their rows.
+use Rattle.std.proofs.Common.{ℕ, ◌≡◌, ◌+◌, ◌-◌, ◌<◌, ◌≤◌, ◌==◌, List, [], ◌∷◌, ap, arith, false, get_or, length, map, pos, refl, subst, sym, ◌∙◌}
+use Rattle.std.proofs.lemmas.Bool.{ne_eqb}
 use Rattle.std.proofs.lemmas.Int.{ints}
-use Rattle.std.proofs.lemmas.List.{get_or_default, length-map}
-use Rattle.std.proofs.lemmas.List.Elements.{All-filter, All-head, All-tail, filter_passes}
+use Rattle.std.proofs.lemmas.List.{get_or-map, length-map}
+use Rattle.std.proofs.lemmas.List.Elements.{All-head, All-tail}
 use Rattle.std.proofs.lemmas.List.FromFn.{get_or-range_with_len, length-range_with_len}
 use Rattle.std.specs.List.{All, AllZip, range_with_len}
-use Rattle.dmf_state.specs.Flow.{IsInnerNode, flow_value}
+use Rattle.dmf_state.specs.Flow.{flow_value}
 use Rattle.dmf_state.specs.Network.{Network}
 use Rattle.dmf_solver.specs.Greatest.{IsGreatest}
 use Rattle.dmf_vital.specs.GreatestValue.{IsGreatestValue}
-use Rattle.dmf_vital.specs.Loss.{IsLoss, IsLossAt, IsLossOfArc, IsLossOfNode}
-use Rattle.dmf_vital.specs.Without.{without_arc, without_node}
-use Rattle.dmf_vital.specs.Worst.{AreWorst}
+use Rattle.dmf_vital.specs.Loss.{IsLoss}
+use Rattle.dmf_vital.specs.Without.{without_arc, without_node, without_pair}
+use Rattle.dmf_vital.specs.Worst.{IsArcLoss, IsNodeLoss, IsPairLoss}
 use Rattle.dmf_vital.specs.declared.worst.NumberedLoss.{NumberedLoss}
 use Rattle.dmf_vital.proofs.Values.{value-is_greatest}
-use Rattle.dmf_valuing.specs.PartRows.{AreLosses, ArePartRows, AreWithin, AreWorstParts, IsFound, found_rows, part_numbers, part_row, part_rows, worst_row}
-use Rattle.dmf_valuing.specs.Rows.{AreRowsOfWorst, IsArcRow, IsNodeRow, Row, inner_nodes, is_inner}
-use Rattle.dmf_valuing.specs.declared.parts.Losses.{Losses}
-use Rattle.dmf_valuing.specs.declared.parts.Losses.TheVariants as found
+use Rattle.dmf_valuing.specs.PartRows.{AreLossesOf, AreLossesOfParts, ArePartRows, loss_row}
+use Rattle.dmf_valuing.specs.Rows.{IsArcRow, IsNodeRow, IsPairRow, Row, inner_nodes}
 use Rattle.dmf_valuing.specs.declared.parts.Parts.{Parts}
-use Rattle.dmf_valuing.specs.declared.parts.Parts.TheVariants.{Arcs, Nodes}
-use Rattle.dmf_valuing.proofs.PartRows.{all-kept, row-at}
-
--- The number is that of a node.
-abbrev IsNumber : ℕ → ℕ → Type 0
-IsNumber nodes v = (1 ≤ v) × (v ≤ nodes)
-
-all-nodes : (nodes : ℕ) → All (IsNumber nodes) (range_with_len 1 nodes)
-all-nodes nodes k d below =
-    let inside : k < nodes = omega (arith, below, length-range_with_len 1 nodes) in
-    subst (IsNumber nodes) (sym (get_or-range_with_len 1 nodes k d inside)) (omega arith, omega (arith, inside))
-
--- Each of the inner nodes is one.
-inner-at : (n : Network) (k : ℕ) → k < length (inner_nodes n) → IsInnerNode n (get_or (inner_nodes n) k 0)
-inner-at n k inside =
-    let v = get_or (inner_nodes n) k 0 in
-    let number = All-filter (is_inner n) (IsNumber n.nodes) (range_with_len 1 n.nodes) (all-nodes n.nodes) k 0 inside in
-    let passes = and_parts _ _ (filter_passes (is_inner n) (range_with_len 1 n.nodes) k 0 inside) in
-    record {
-      node = record { from_one = number.0; to_last = number.1 };
-      not_source = eqb-false v n.source (not-true _ passes.0);
-      not_sink = eqb-false v n.sink (not-true _ passes.1);
-    }
+use Rattle.dmf_valuing.specs.declared.parts.Parts.TheVariants.{Arcs, Nodes, WorstArcs, WorstNodes, WorstPairs}
 
 -- What is so of each element of a list relates it to what a function makes of it.
 zip-map : {X : Type 0} (P : X → Type 0) (R : X → Row → Type 0) (f : X → Row) → ((x : X) → P x → R x (f x)) → (xs : List X) → All P xs → AllZip R xs (map f xs)
@@ -66,89 +42,81 @@ module _ (n : Network) (flows : List ℕ) (value : ℕ) (greatest : IsGreatest n
     loss-fits : loss ≤ value
     loss-fits = omega (arith, left)
 
-  node-fits : (v loss : ℕ) → IsNumber n.nodes v → IsLossAt n v loss → loss ≤ value
-  node-fits v loss number is =
-      ⊎_elim (λ (same : v ≡ n.source). omega (arith, is.source same))
-      (λ other. ⊎_elim (λ (same : v ≡ n.sink). omega (arith, is.sink same))
-      (λ also. loss-fits (without_node n v) loss (is.inner (record { node = record { from_one = number.0; to_last = number.1 }; not_source = other; not_sink = also })).1) (cases_eq v n.sink))
-      (cases_eq v n.source)
+  -- the row of the loss of an arc, of a node and of a pair of arcs
+  arc-row : (one : NumberedLoss) → IsArcLoss n one → IsArcRow n one.number (loss_row value one)
+  arc-row one is = (value - one.loss, left-is (without_arc n one.number) one.loss is.1.1, rw is.0 refl)
 
-  -- No loss is larger than the value.
-  losses-fit : (parts : Parts) (losses : List ℕ) → AreLosses parts n losses → All (λ loss. loss ≤ value) losses
-  losses-fit Arcs losses are k d below =
-      omega (arith, loss-fits (without_arc n (k + 1)) (get_or losses k 0) (are.each k below).1, get_or_default losses k d 0 below)
-  losses-fit Nodes losses are k d below =
-      let number : IsNumber n.nodes (k + 1) = (omega arith, omega (arith, below, are.one_each)) in
-      omega (arith, node-fits (k + 1) (get_or losses k 0) number (are.each k below), get_or_default losses k d 0 below)
+  node-row : (one : NumberedLoss) → IsNodeLoss n one → IsNodeRow n one.number (loss_row value one)
+  node-row one is = (value - one.loss, left-is (without_node n one.number) one.loss is.1.1, rw is.0 refl)
 
-  -- The rows are those of all parts.
-  rows-are : (parts : Parts) (losses : List ℕ) → AreLosses parts n losses → ArePartRows parts None n (part_rows parts n value losses)
+  pair-row : (one : NumberedLoss) → IsPairLoss n one → IsPairRow n one.number one.second (loss_row value one)
+  pair-row one is =
+      let some : (one.second == 0) ≡ false = ne_eqb one.second 0 (omega (arith, is.0)) in
+      (value - one.loss, left-is (without_pair n one.number one.second) one.loss is.1.2, rw some refl)
+
+  -- None is larger than the value.
+  arc-fits : (one : NumberedLoss) → IsArcLoss n one → one.loss ≤ value
+  arc-fits one is = loss-fits (without_arc n one.number) one.loss is.1.1
+
+  node-fits : (one : NumberedLoss) → IsNodeLoss n one → one.loss ≤ value
+  node-fits one is = loss-fits (without_node n one.number) one.loss is.1.1
+
+  pair-fits : (one : NumberedLoss) → IsPairLoss n one → one.loss ≤ value
+  pair-fits one is = loss-fits (without_pair n one.number one.second) one.loss is.1.2
+
+  pub losses-fit : (parts : Parts) (losses : List NumberedLoss) → AreLossesOfParts parts n losses → All (λ (one : NumberedLoss). one.loss ≤ value) losses
+  losses-fit Arcs losses are k d below = arc-fits (get_or losses k d) (are.such k d below)
+  losses-fit Nodes losses are k d below = node-fits (get_or losses k d) (are.such k d below)
+  losses-fit (WorstArcs most) losses are k d below = arc-fits (get_or losses k d) (are.losses k d below)
+  losses-fit (WorstNodes most) losses are k d below = node-fits (get_or losses k d) (are.losses k d below)
+  losses-fit (WorstPairs most) losses are k d below = pair-fits (get_or losses k d) (are.losses k d below)
+
+  -- The row at an index is that of the number there.
+  module _ (IsSuch : NumberedLoss → Type 0) (IsRowOf : ℕ → Row → Type 0) (make : (one : NumberedLoss) → IsSuch one → IsRowOf one.number (loss_row value one))
+      (numbers : List ℕ) (losses : List NumberedLoss) (are : AreLossesOf IsSuch numbers losses) where
+    long : length losses ≡ length numbers
+    long = sym (length-map losses (λ (one : NumberedLoss). one.number)) ∙ ap length are.numbers_are
+
+    all-long : length (map (loss_row value) losses) ≡ length numbers
+    all-long = length-map losses (loss_row value) ∙ long
+
+    row-at : (k : ℕ) → k < length numbers → IsRowOf (get_or numbers k 0) (get_or (map (loss_row value) losses) k [])
+    row-at k inside =
+        let none : NumberedLoss = record { number = 0; second = 0; loss = 0 } in
+        let below : k < length losses = omega (arith, inside, long) in
+        let one : NumberedLoss = get_or losses k none in
+        let number : one.number ≡ get_or numbers k 0 =
+        sym (get_or-map (λ (one : NumberedLoss). one.number) losses k none 0 below) ∙ ap (λ l. get_or l k 0) are.numbers_are in
+        subst (λ (row : Row). IsRowOf (get_or numbers k 0) row) (sym (get_or-map (loss_row value) losses k none [] below))
+        (subst (λ (j : ℕ). IsRowOf j (loss_row value one)) number (make one (are.such k none below)))
+
+  -- The rows are those of such parts.
+  pub rows-are : (parts : Parts) (losses : List NumberedLoss) → AreLossesOfParts parts n losses → ArePartRows parts n (map (loss_row value) losses)
   rows-are Arcs losses are =
-      let numbers = range_with_len 1 (length losses) in
-      let all : part_numbers Arcs n (length losses) ≡ numbers = all-kept n numbers in
-      let long : length (part_numbers Arcs n (length losses)) ≡ length losses = ap length all ∙ length-range_with_len 1 (length losses) in
+      let numbers = range_with_len 1 (length n.arcs) in
       record {
-        one_each = length-map (part_numbers Arcs n (length losses)) (part_row value losses) ∙ long ∙ are.one_each;
+        one_each = all-long (IsArcLoss n) (IsArcRow n) arc-row numbers losses are ∙ length-range_with_len 1 (length n.arcs);
         in_order = λ k inside.
-            let below : k < length losses = omega (arith, inside, are.one_each) in
-            let number : get_or (part_numbers Arcs n (length losses)) k 0 ≡ k + 1 =
-            ap (λ l. get_or l k 0) all ∙ get_or-range_with_len 1 (length losses) k 0 below ∙ omega arith in
-            let back : k + 1 - 1 ≡ k = omega arith in (
-              value - get_or losses k 0,
-              left-is (without_arc n (k + 1)) (get_or losses k 0) (are.each k below).1,
-              row-at value losses (part_numbers Arcs n (length losses)) k (k + 1) (omega (arith, below, long)) number
-                  ∙ ap (λ i. (k + 1) ∷ (value - get_or losses i 0) ∷ []) back,
-            );
+            let number : get_or numbers k 0 ≡ k + 1 = get_or-range_with_len 1 (length n.arcs) k 0 inside ∙ omega arith in
+            subst (λ (j : ℕ). IsArcRow n j (get_or (map (loss_row value) losses) k [])) number
+            (row-at (IsArcLoss n) (IsArcRow n) arc-row numbers losses are k (omega (arith, inside, length-range_with_len 1 (length n.arcs))));
       }
-  rows-are Nodes losses are =
-      let same : part_numbers Nodes n (length losses) ≡ inner_nodes n = ap (λ count. filter (is_inner n) (range_with_len 1 count)) are.one_each in
-      record {
-        one_each = length-map (part_numbers Nodes n (length losses)) (part_row value losses) ∙ ap length same;
-        in_order = λ k inside.
-            let v = get_or (inner_nodes n) k 0 in
-            let inner = inner-at n k inside in
-            let below : v - 1 < length losses = omega (arith, inner.node.from_one, inner.node.to_last, are.one_each) in
-            let number : v - 1 + 1 ≡ v = omega (arith, inner.node.from_one) in
-            let loss = get_or losses (v - 1) 0 in
-            let is : IsLossAt n v loss = subst (λ u. IsLossAt n u loss) number (are.each (v - 1) below) in (
-              value - loss,
-              left-is (without_node n v) loss (is.inner inner).1,
-              row-at value losses (part_numbers Nodes n (length losses)) k v (omega (arith, inside, ap length same)) (ap (λ l. get_or l k 0) same),
-            );
-      }
-
-  -- So it is with the worst,
-  worst-fit : (parts : Parts) (most : ℕ) (worst : List NumberedLoss) → AreWorstParts parts most n worst → All (λ (w : NumberedLoss). w.loss ≤ value) worst
-  worst-fit Arcs most worst are k d below =
-      let w : NumberedLoss = get_or worst k d in loss-fits (without_arc n w.number) w.loss (are.losses k d below).1
-  worst-fit Nodes most worst are k d below =
-      let w : NumberedLoss = get_or worst k d in loss-fits (without_node n w.number) w.loss (are.losses k d below).1
-
-  worst-are : (parts : Parts) (most : ℕ) (worst : List NumberedLoss) → AreWorstParts parts most n worst
-      → ArePartRows parts (Some most) n (map (worst_row value) worst)
-  worst-are Arcs most worst are = record {
-    worst = worst;
-    are_worst = are;
-    one_each = zip-map (λ (w : NumberedLoss). IsLossOfArc n w.number w.loss) (λ (w : NumberedLoss) (row : Row). IsArcRow n w.number row) (worst_row value)
-        (λ w is. (value - w.loss, left-is (without_arc n w.number) w.loss is.1, refl)) worst are.losses;
+  rows-are Nodes losses are = record {
+    one_each = all-long (IsNodeLoss n) (IsNodeRow n) node-row (inner_nodes n) losses are;
+    in_order = row-at (IsNodeLoss n) (IsNodeRow n) node-row (inner_nodes n) losses are;
   }
-  worst-are Nodes most worst are = record {
-    worst = worst;
+  rows-are (WorstArcs most) losses are = record {
+    worst = losses;
     are_worst = are;
-    one_each = zip-map (λ (w : NumberedLoss). IsLossOfNode n w.number w.loss) (λ (w : NumberedLoss) (row : Row). IsNodeRow n w.number row) (worst_row value)
-        (λ w is. (value - w.loss, left-is (without_node n w.number) w.loss is.1, refl)) worst are.losses;
+    one_each = zip-map (IsArcLoss n) (λ (w : NumberedLoss) (row : Row). IsArcRow n w.number row) (loss_row value) arc-row losses are.losses;
   }
-
-  -- and so with what was found.
-  pub found-fits : (parts : Parts) (most : Option ℕ) (losses : Losses) → IsFound parts most n losses → AreWithin value losses
-  found-fits parts None (found.All all) are = losses-fit parts all.items are
-  found-fits parts None (found.Worst worst) are = absurd are
-  found-fits parts (Some most) (found.All all) are = absurd are
-  found-fits parts (Some most) (found.Worst worst) are = worst-fit parts most worst.items are
-
-  pub found-are : (parts : Parts) (most : Option ℕ) (losses : Losses) → IsFound parts most n losses
-      → ArePartRows parts most n (found_rows parts n value losses)
-  found-are parts None (found.All all) are = rows-are parts all.items are
-  found-are parts None (found.Worst worst) are = absurd are
-  found-are parts (Some most) (found.All all) are = absurd are
-  found-are parts (Some most) (found.Worst worst) are = worst-are parts most worst.items are
+  rows-are (WorstNodes most) losses are = record {
+    worst = losses;
+    are_worst = are;
+    one_each = zip-map (IsNodeLoss n) (λ (w : NumberedLoss) (row : Row). IsNodeRow n w.number row) (loss_row value) node-row losses are.losses;
+  }
+  rows-are (WorstPairs most) losses are = record {
+    worst = losses;
+    are_worst = are;
+    one_each = zip-map (IsPairLoss n) (λ (w : NumberedLoss) (row : Row). IsPairRow n w.number w.second row) (loss_row value) pair-row losses are.losses;
+  }

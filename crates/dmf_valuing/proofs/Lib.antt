@@ -1,3 +1,4 @@
 pub mod PartRows
+pub mod Numbered
 pub mod FromLosses
 pub mod OneText

@@ -3,7 +3,7 @@
 use Rattle.std.specs.Prelude.{ℕ, ◌≡◌, List}
 use Rattle.dmf_state.specs.Network.{Network}
 use Rattle.dmf_vital.specs.GreatestValue.{IsGreatestValue}
-use Rattle.dmf_valuing.specs.Rows.{AreArcRows, AreNodeRows, AreWorstArcRows, AreWorstNodeRows, Row, vital_text}
+use Rattle.dmf_valuing.specs.Rows.{AreArcRows, AreNodeRows, AreWorstArcRows, AreWorstNodeRows, AreWorstPairRows, Row, vital_text}
 
 -- A greatest value of a network and rows that are so have one text, whoever finds them.
 abbrev pub HaveOneText : (Network → List Row → Type 0) → Type 0
@@ -22,6 +22,10 @@ NodesHaveOneText = HaveOneText AreNodeRows
 abbrev pub WorstArcsHaveOneText : Type 0
 WorstArcsHaveOneText = (most : ℕ) → HaveOneText (AreWorstArcRows most)
 
--- and rows of so many of its worst nodes
+-- of so many of its worst nodes,
 abbrev pub WorstNodesHaveOneText : Type 0
 WorstNodesHaveOneText = (most : ℕ) → HaveOneText (AreWorstNodeRows most)
+
+-- and of so many of its worst pairs of arcs
+abbrev pub WorstPairsHaveOneText : Type 0
+WorstPairsHaveOneText = (most : ℕ) → HaveOneText (AreWorstPairRows most)

@@ -7,9 +7,8 @@ use Rattle.dmf_state.specs.Network.{Network}
 use Rattle.dmf_text.specs.Judging.{Line}
 use Rattle.dmf_text.specs.Written.{written, written_line}
 use Rattle.dmf_vital.specs.GreatestValue.{IsGreatestValue}
-use Rattle.dmf_vital.specs.Loss.{IsLossOfArc, IsLossOfNode}
-use Rattle.dmf_vital.specs.Without.{without_arc, without_node}
-use Rattle.dmf_vital.specs.Worst.{AreWorst}
+use Rattle.dmf_vital.specs.Without.{without_arc, without_node, without_pair}
+use Rattle.dmf_vital.specs.Worst.{AreWorst, IsArcLoss, IsNodeLoss, IsPairLoss}
 use Rattle.dmf_vital.specs.declared.worst.NumberedLoss.{NumberedLoss}
 
 -- ---- rows of numbers
@@ -43,19 +42,27 @@ pub record AreNodeRows (n : Network) (rows : List Row) : Type 0 where
   pub one_each : length rows ≡ length (inner_nodes n)
   pub in_order : (k : ℕ) → k < length (inner_nodes n) → IsNodeRow n (slice_index (inner_nodes n) k) (slice_index_or rows k [])
 
--- The rows are those of the worst losses, at most so many, in their order.
-pub record AreRowsOfWorst (IsLossOf : ℕ → ℕ → Type 0) (IsRowOf : ℕ → Row → Type 0) (most : ℕ) (rows : List Row) : Type 0 where
+-- The row has the numbers of the arcs `i` and `j`, and the value of a greatest flow of the network in which both are closed.
+abbrev pub IsPairRow : Network → ℕ → ℕ → Row → Type 0
+IsPairRow n i j row = (without : ℕ) × IsGreatestValue (without_pair n i j) without × (row ≡ i ∷ j ∷ without ∷ [])
+
+-- The rows are those of the worst of such losses, at most so many, in their order.
+pub record AreRowsOfWorst (IsSuch : NumberedLoss → Type 0) (IsRowOf : NumberedLoss → Row → Type 0) (most : ℕ) (rows : List Row) : Type 0 where
   pub worst : List NumberedLoss
-  pub are_worst : AreWorst IsLossOf most worst
-  pub one_each : AllZip (λ w row. IsRowOf w.number row) worst rows
+  pub are_worst : AreWorst IsSuch most worst
+  pub one_each : AllZip IsRowOf worst rows
 
 -- those of the arcs without which most is lost
 abbrev pub AreWorstArcRows : ℕ → Network → List Row → Type 0
-AreWorstArcRows most n = AreRowsOfWorst (IsLossOfArc n) (IsArcRow n) most
+AreWorstArcRows most n = AreRowsOfWorst (IsArcLoss n) (λ w. IsArcRow n w.number) most
 
 -- those of the nodes but the source and the sink without which most is lost
 abbrev pub AreWorstNodeRows : ℕ → Network → List Row → Type 0
-AreWorstNodeRows most n = AreRowsOfWorst (IsLossOfNode n) (IsNodeRow n) most
+AreWorstNodeRows most n = AreRowsOfWorst (IsNodeLoss n) (λ w. IsNodeRow n w.number) most
+
+-- those of the pairs of arcs without which most is lost
+abbrev pub AreWorstPairRows : ℕ → Network → List Row → Type 0
+AreWorstPairRows most n = AreRowsOfWorst (IsPairLoss n) (λ w. IsPairRow n w.number w.second) most
 
 -- ---- what is written
 

@@ -1,4 +1,4 @@
-ghost use Rattle.dmf_valuing.specs.Laws.{ArcsHaveOneText, NodesHaveOneText, WorstArcsHaveOneText, WorstNodesHaveOneText};
+ghost use Rattle.dmf_valuing.specs.Laws.{ArcsHaveOneText, NodesHaveOneText, WorstArcsHaveOneText, WorstNodesHaveOneText, WorstPairsHaveOneText};
 
 /// The law that the problem determines what a run writes that values each arc.
 pub fn arcs_have_one_text()
@@ -18,4 +18,9 @@ pub fn worst_arcs_have_one_text()
 /// The law that the problem determines what a run writes that lists the worst nodes.
 pub fn worst_nodes_have_one_text()
     ensures { WorstNodesHaveOneText }
+{}
+
+/// The law that the problem determines what a run writes that lists the worst pairs of arcs.
+pub fn worst_pairs_have_one_text()
+    ensures { WorstPairsHaveOneText }
 {}

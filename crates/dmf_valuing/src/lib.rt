@@ -3,8 +3,11 @@
 
 pub use laws::{
     arcs_have_one_text, nodes_have_one_text, worst_arcs_have_one_text, worst_nodes_have_one_text,
+    worst_pairs_have_one_text,
 };
-pub use vital::{run_vital, run_vital_nodes, run_vital_worst, run_vital_worst_nodes};
+pub use vital::{
+    run_vital, run_vital_nodes, run_vital_worst, run_vital_worst_nodes, run_vital_worst_pairs,
+};
 
 mod laws;
 mod parts;

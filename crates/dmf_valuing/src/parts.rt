@@ -1,12 +1,15 @@
-//! The parts of a network that a run values.
-ghost use Rattle.std.specs.Prelude.{◌≡◌, IfOk};
+//! The parts of a network that a run leaves out in turn, and what is lost without them.
+ghost use Rattle.std.specs.Prelude.{ℕ, ◌≡◌, ◌+◌, ◌<◌, IfOk, length, slice_index};
+ghost use Rattle.std.specs.List.{range_with_len};
 ghost use Rattle.dmf_solver.specs.Greatest.{IsGreatest};
-ghost use Rattle.dmf_valuing.specs.PartRows.{AreLosses, AreWorstParts, IsFound, has_row};
-ghost use Rattle.dmf_valuing.specs.Rows.{is_inner};
+ghost use Rattle.dmf_vital.specs.Loss.{IsLossAt, IsLossOfArc};
+ghost use Rattle.dmf_vital.specs.Worst.{IsArcLoss, IsNodeLoss};
+ghost use Rattle.dmf_valuing.specs.PartRows.{AreLossesOf, AreLossesOfParts, single};
+ghost use Rattle.dmf_valuing.specs.Rows.{inner_nodes, is_inner};
 
 use dmf_state::{NoMemory, State};
-use dmf_vital::{NumberedLoss, arc_losses, node_losses, worst_arcs, worst_nodes};
-use std::alloc::Global;
+use dmf_vital::{NumberedLoss, arc_losses, node_losses, worst_arcs, worst_nodes, worst_pairs};
+use std::alloc::{AllocError, Global};
 
 /// Which parts have rows.
 #[derive(Clone, Copy)]
@@ -15,75 +18,86 @@ pub enum Parts {
     Arcs,
     /// All nodes but the source and the sink.
     Nodes,
+    /// At most so many arcs, the worst first.
+    WorstArcs(u32),
+    /// At most so many nodes, the worst first.
+    WorstNodes(u32),
+    /// At most so many pairs of arcs, the worst first.
+    WorstPairs(u32),
 }
 
-/// What is lost without parts.
-#[derive(Drop)]
-pub enum Losses {
-    /// Without each part, in order. A node without a row has its place too.
-    All(Vec<u64>),
-    /// Without each of the worst.
-    Worst(Vec<NumberedLoss>),
-}
-
-/// The loss of each part of a state whose flow is greatest, or only the greatest losses, if their number is limited. Fails only if memory
-/// is refused.
+/// What is lost without each of the parts, in the order of their rows, of a state whose flow is greatest. Fails only if memory is refused.
 pub fn find_losses(
     alloc: Global,
     parts: Parts,
-    most: Option<u32>,
-    state: &State,
-) -> Result<Losses, NoMemory>
-    requires { IsGreatest state.now.network state.now.flows }
-    ensures { IfOk result (IsFound parts most state.now.network) }
-{
-    match most {
-        None => Ok(Losses::All(losses_of(alloc, parts, state)?)),
-        Some(most) => Ok(Losses::Worst(worst_of(alloc, parts, most as usize, state)?)),
-    }
-}
-
-/// The `most` greatest losses in a state whose flow is greatest, the greatest first. Fails only if memory is refused.
-fn worst_of(
-    alloc: Global,
-    parts: Parts,
-    most: usize,
     state: &State,
 ) -> Result<Vec<NumberedLoss>, NoMemory>
     requires { IsGreatest state.now.network state.now.flows }
-    ensures { IfOk result (λ worst. AreWorstParts parts most state.now.network worst.items) }
+    ensures { IfOk result (λ losses. AreLossesOfParts parts state.now.network losses.items) }
 {
     match parts {
-        Parts::Arcs => worst_arcs(alloc, state, most),
-        Parts::Nodes => worst_nodes(alloc, state, most),
+        Parts::Arcs => Ok(losses_of_arcs(alloc, state, &arc_losses(alloc, state)?)?),
+        Parts::Nodes => Ok(losses_of_nodes(alloc, state, &node_losses(alloc, state)?)?),
+        Parts::WorstArcs(most) => worst_arcs(alloc, state, most as usize),
+        Parts::WorstNodes(most) => worst_nodes(alloc, state, most as usize),
+        Parts::WorstPairs(most) => worst_pairs(alloc, state, most as usize),
     }
 }
 
-/// What is lost without each part, in order, of a state whose flow is greatest. A node without a row has its place too. Fails only if
-/// memory is refused.
-fn losses_of(alloc: Global, parts: Parts, state: &State) -> Result<Vec<u64>, NoMemory>
-    requires { IsGreatest state.now.network state.now.flows }
-    ensures { IfOk result (λ losses. AreLosses parts state.now.network losses.items) }
+/// What is lost without each arc, each loss with its number.
+fn losses_of_arcs(
+    alloc: Global,
+    state: &State,
+    losses: &[u64],
+) -> Result<Vec<NumberedLoss>, AllocError>
+    requires one_each { length losses.now ≡ length state.now.network.arcs }
+    requires losses { (k : ℕ) → k < length losses.now
+        → IsLossOfArc state.now.network (k + 1) (slice_index losses.now k) }
+    ensures { IfOk result (λ numbered. AreLossesOf (IsArcLoss state.now.network)
+        (range_with_len 1 (length state.now.network.arcs)) numbered.items) }
 {
-    match parts {
-        Parts::Arcs => arc_losses(alloc, state),
-        Parts::Nodes => node_losses(alloc, state),
+    let mut numbered = Vec::with_capacity(alloc, losses.len())?;
+    for k in 0..state.arcs().len() {
+        numbered.push(single(k as u32 + 1, losses[k]))?;
     }
+    Ok(numbered)
 }
 
-/// Whether the part of this number has a row.
-pub fn has_row(parts: Parts, state: &State, number: u64) -> bool
-    ensures { result ≡ has_row parts state.now.network number }
+/// What is lost without each node but the source and the sink, each loss with its number.
+fn losses_of_nodes(
+    alloc: Global,
+    state: &State,
+    losses: &[u64],
+) -> Result<Vec<NumberedLoss>, AllocError>
+    requires one_each { length losses.now ≡ state.now.network.nodes }
+    requires losses { (k : ℕ) → k < length losses.now
+        → IsLossAt state.now.network (k + 1) (slice_index losses.now k) }
+    ensures { IfOk result (λ numbered. AreLossesOf (IsNodeLoss state.now.network)
+        (inner_nodes state.now.network) numbered.items) }
 {
-    match parts {
-        Parts::Arcs => true,
-        Parts::Nodes => is_inner(state, number),
+    let mut numbered = Vec::with_capacity(alloc, losses.len())?;
+    for k in 0..state.nodes() {
+        if is_inner(state, k + 1) {
+            numbered.push(single(k + 1, losses[k as usize]))?;
+        }
+    }
+    Ok(numbered)
+}
+
+/// The loss without the one arc or node of this number.
+fn single(number: u32, loss: u64) -> NumberedLoss
+    ensures { result ≡ single number loss }
+{
+    NumberedLoss {
+        number,
+        second: 0,
+        loss,
     }
 }
 
 /// Whether the node of this number is neither the source nor the sink.
-fn is_inner(state: &State, number: u64) -> bool
+fn is_inner(state: &State, number: u32) -> bool
     ensures { result ≡ is_inner state.now.network number }
 {
-    number != u64::from(state.source()) && number != u64::from(state.sink())
+    number != state.source() && number != state.sink()
 }

@@ -1,11 +1,12 @@
-//! What is left without each arc, or without each node, from bytes to bytes.
-ghost use Rattle.dmf_valuing.specs.Laws.{ArcsHaveOneText, NodesHaveOneText, WorstArcsHaveOneText, WorstNodesHaveOneText};
+//! What is left without each arc, without each node or without each pair of arcs, from bytes to bytes.
+ghost use Rattle.dmf_valuing.specs.Laws.{ArcsHaveOneText, NodesHaveOneText, WorstArcsHaveOneText, WorstNodesHaveOneText, WorstPairsHaveOneText};
 ghost use Rattle.dmf_valuing.specs.PartRows.{ArePartRows};
-ghost use Rattle.dmf_valuing.specs.Rows.{AreArcRows, AreNodeRows, AreWorstArcRows, AreWorstNodeRows};
+ghost use Rattle.dmf_valuing.specs.Rows.{AreArcRows, AreNodeRows, AreWorstArcRows, AreWorstNodeRows, AreWorstPairRows};
 ghost use Rattle.dmf_valuing.specs.VitalRun.{RunsVital};
 
 use crate::laws::{
     arcs_have_one_text, nodes_have_one_text, worst_arcs_have_one_text, worst_nodes_have_one_text,
+    worst_pairs_have_one_text,
 };
 use crate::parts::{Parts, find_losses};
 use crate::rows::write_vital;
@@ -30,7 +31,7 @@ pub fn run_vital<P: Source, W: Sink, V: Watch>(
     ensures one_text { ArcsHaveOneText }
 {
     arcs_have_one_text();
-    run_valuing(alloc, Parts::Arcs, None, problem, out, watch)
+    run_valuing(alloc, Parts::Arcs, problem, out, watch)
 }
 
 /// Does what [`run_vital`] does, for each node but the source and the sink in place of each arc. WITHOUT is the value of a greatest flow of
@@ -45,7 +46,7 @@ pub fn run_vital_nodes<P: Source, W: Sink, V: Watch>(
     ensures one_text { NodesHaveOneText }
 {
     nodes_have_one_text();
-    run_valuing(alloc, Parts::Nodes, None, problem, out, watch)
+    run_valuing(alloc, Parts::Nodes, problem, out, watch)
 }
 
 /// Does what [`run_vital`] does, but lists only the `most` arcs that cost most to lose: the greatest loss first and, of equal ones, the
@@ -61,7 +62,7 @@ pub fn run_vital_worst<P: Source, W: Sink, V: Watch>(
     ensures one_text { WorstArcsHaveOneText }
 {
     worst_arcs_have_one_text();
-    run_valuing(alloc, Parts::Arcs, Some(most), problem, out, watch)
+    run_valuing(alloc, Parts::WorstArcs(most), problem, out, watch)
 }
 
 /// Does what [`run_vital_worst`] does, for nodes, as [`run_vital_nodes`] values them.
@@ -76,26 +77,41 @@ pub fn run_vital_worst_nodes<P: Source, W: Sink, V: Watch>(
     ensures one_text { WorstNodesHaveOneText }
 {
     worst_nodes_have_one_text();
-    run_valuing(alloc, Parts::Nodes, Some(most), problem, out, watch)
+    run_valuing(alloc, Parts::WorstNodes(most), problem, out, watch)
 }
 
-/// Reads a problem, and writes its greatest value and what is left of it without each of these parts, or without at most so many of the
-/// worst.
-#[inline(never)]
-fn run_valuing<P: Source, W: Sink, V: Watch>(
+/// Does what [`run_vital_worst`] does, for pairs of arcs: `v I J WITHOUT`, where I is the smaller number. Of equal losses that of the smaller
+/// I comes first, and of equal I that of the smaller J. WITHOUT is the value of a greatest flow of the network in which both arcs are
+/// closed.
+pub fn run_vital_worst_pairs<P: Source, W: Sink, V: Watch>(
     alloc: Global,
-    parts: Parts,
-    most: Option<u32>,
+    most: u32,
     problem: &mut P,
     out: &mut W,
     watch: &mut V,
 ) -> Result<Status, EngineFault>
-    ensures { RunsVital (ArePartRows parts most) (P.left problem.old) (P.left problem.new) (W.written out.old) (W.written out.new) result }
+    ensures run { RunsVital (AreWorstPairRows most) (P.left problem.old) (P.left problem.new) (W.written out.old) (W.written out.new) result }
+    ensures one_text { WorstPairsHaveOneText }
+{
+    worst_pairs_have_one_text();
+    run_valuing(alloc, Parts::WorstPairs(most), problem, out, watch)
+}
+
+/// Reads a problem, and writes its greatest value and what is left of it without each of these parts.
+#[inline(never)]
+fn run_valuing<P: Source, W: Sink, V: Watch>(
+    alloc: Global,
+    parts: Parts,
+    problem: &mut P,
+    out: &mut W,
+    watch: &mut V,
+) -> Result<Status, EngineFault>
+    ensures { RunsVital (ArePartRows parts) (P.left problem.old) (P.left problem.new) (W.written out.old) (W.written out.new) result }
 {
     let state = read_state(alloc, problem)?;
     let solved = solve_any(alloc, state, false, watch)?;
-    let losses = find_losses(alloc, parts, most, &solved.state)?;
-    write_vital(solved.state.value(), parts, &solved.state, &losses, out)?;
+    let losses = find_losses(alloc, parts, &solved.state)?;
+    write_vital(solved.state.value(), &losses, out)?;
     flush(out)?;
     Ok(Status::Well)
 }

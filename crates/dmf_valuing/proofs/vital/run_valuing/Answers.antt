@@ -1,4 +1,4 @@
-use Rattle.std.proofs.Common.{Result, Ok, Err, subst, sym}
+use Rattle.std.proofs.Common.{Result, Ok, Err, map, subst, sym}
 use Rattle.std.proofs.lemmas.Result.{err_from_is_err_and}
 use Rattle.dmf_state.specs.Network.{Network}
 use Rattle.dmf_text.specs.Streams.{Writer}
@@ -11,25 +11,29 @@ use Rattle.dmf_streams.specs.Reading.{HasGiven}
 use Rattle.dmf_streams.proofs.Giving.{given}
 use Rattle.dmf_streams.proofs.ReplyLemmas.{Writes-flushed}
 use Rattle.dmf_vital.specs.GreatestValue.{IsGreatestValue}
-use Rattle.dmf_valuing.specs.PartRows.{ArePartRows, found_rows}
+use Rattle.dmf_valuing.specs.PartRows.{AreLossesOfParts, ArePartRows, loss_row}
 use Rattle.dmf_valuing.specs.Rows.{vital_text}
 use Rattle.dmf_valuing.specs.VitalRun.{WritesVital}
-use Rattle.dmf_valuing.proofs.FromLosses.{found-are, found-fits}
+use Rattle.dmf_valuing.proofs.FromLosses.{losses-fit, rows-are}
 use Rattle.dmf_valuing.proofs.vital.run_valuing.Given.{Over}
 use Rattle.dmf_valuing.proofs.vital.run_valuing.Goals as goal
 use Rattle.dmf_valuing.proofs.vital.run_valuing.Goals.{After-write_vital}
 
+-- what was found, as it is written
+are-losses : (g : Over) (c : After-write_vital g) → AreLossesOfParts c.args.parts c.in_ok-solved.solved.state.network c.deref.result.now
+are-losses g c = rw c.deref.ensures.value c.in_ok-losses.ensures
+
 -- the value and the rows were written, or a prefix of them
 writes-vital : (g : Over) (c : After-write_vital g) (new : Writer) (result : Result Status EngineFault) → Writes (g.W.Sink.written c.args.out.now) new result
-    (vital_text c.value.result (found_rows c.args.parts c.in_ok-solved.solved.state.network c.value.result c.in_ok-losses.losses))
-    → HasGiven (g.P.Source.left c.args.problem.now) (g.P.Source.left c.read_state.new.source) (λ text. WritesVital (ArePartRows c.args.parts c.args.most)
+    (vital_text c.value.result (map (loss_row c.value.result) c.deref.result.now))
+    → HasGiven (g.P.Source.left c.args.problem.now) (g.P.Source.left c.read_state.new.source) (λ text. WritesVital (ArePartRows c.args.parts)
     (g.P.Source.left c.args.problem.now) (g.P.Source.left c.read_state.new.source) (g.W.Sink.written c.args.out.now) new text result)
 writes-vital g c new result writes = given c.in_ok-state.ensures (λ text problem.
     let solved = c.in_ok-solved.solved.state in
     let found = c.in_ok-solved.ensures in
-    let losses = c.in_ok-losses.losses in
-    let rows = found_rows c.args.parts solved.network c.value.result losses in
-    let are_rows = found-are solved.network solved.flows c.value.result found.greatest c.value.ensures.value c.args.parts c.args.most losses c.in_ok-losses.ensures in
+    let losses = c.deref.result.now in
+    let rows = map (loss_row c.value.result) losses in
+    let are_rows = rows-are solved.network solved.flows c.value.result found.greatest c.value.ensures.value c.args.parts losses (are-losses g c) in
     record {
       state = c.in_ok-state.state;
       problem = problem;
@@ -37,15 +41,15 @@ writes-vital g c new result writes = given c.in_ok-state.ensures (λ text proble
       greatest = subst (λ (n : Network). IsGreatestValue n c.value.result) found.network
           (record { flows = solved.flows; greatest = found.greatest; value_is = sym c.value.ensures.value });
       rows = rows;
-      are_rows = subst (λ (n : Network). ArePartRows c.args.parts c.args.most n rows) found.network are_rows;
+      are_rows = subst (λ (n : Network). ArePartRows c.args.parts n rows) found.network are_rows;
       writes = writes;
     })
 
 pub write_vital-requires : goal.write_vital-requires
 write_vital-requires g c =
     let solved = c.in_ok-solved.solved.state in
-    found-fits solved.network solved.flows c.value.result c.in_ok-solved.ensures.greatest c.value.ensures.value c.args.parts c.args.most
-    c.in_ok-losses.losses c.in_ok-losses.ensures
+    losses-fit solved.network solved.flows c.value.result c.in_ok-solved.ensures.greatest c.value.ensures.value c.args.parts
+    c.deref.result.now (rw c.deref.ensures.value c.in_ok-losses.ensures)
 
 pub returns-in_err-write_vital : goal.returns-in_err-write_vital
 returns-in_err-write_vital g c =
