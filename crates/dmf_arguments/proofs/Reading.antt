@@ -8,7 +8,8 @@ use Rattle.clap.specs.declared.error.kind.ErrorKind.{ErrorKind}
 use Rattle.clap.specs.declared.error.kind.ErrorKind.TheVariants.{OutOfMemory}
 use Rattle.clap.proofs.OnLiterals.{clap_on_literals}
 use Rattle.dmf_arguments.specs.CommandLine.{Asked, arguments, asked_of}
-use Rattle.dmf_arguments.specs.Words.{Asks, IsMost, IsNumberUpTo, IsToldOf, TellsKind, holding, solving, valuing}
+use Rattle.dmf_arguments.specs.Words.{Asks, IsMost, IsNumberUpTo, IsToldOf, TellsKind, GivesValuing, holding, parts_of, solving}
+use Rattle.dmf_arguments.specs.declared.words.Parts.{Parts}
 use Rattle.dmf_arguments.specs.declared.words.WordsFault.{WordsFault}
 use Rattle.dmf_arguments.specs.declared.words.WordsFault.TheVariants.{NoMemory}
 
@@ -26,6 +27,11 @@ line_is_free = refl
 pub no_kinds : {k : ErrorKind} {ks : Kinds} → [] ≡ k ∷ ks → ⊥
 no_kinds e = cc
 
+-- Where memory is refused, parts that are asked for are not given, nor is a fault of the words told.
+no-valuing : {fault : WordsFault} (parts : Option Parts) (progress : Bool) → fault ≡ NoMemory → GivesValuing parts progress (Err fault)
+no-valuing (Some parts) progress memory = memory
+no-valuing None progress memory = rw memory tt
+
 -- Reading failed, for want of memory or with one of these kinds of fault.
 module _ (kinds : Kinds) (kind : ErrorKind) (fault : WordsFault) (among : (kind ≡ OutOfMemory) ⊎ IsAmong kind kinds)
     (tells : TellsKind kind fault) where
@@ -34,10 +40,10 @@ module _ (kinds : Kinds) (kind : ErrorKind) (fault : WordsFault) (among : (kind 
   short asked clean =
       let memory : fault ≡ NoMemory = elim among [ inl e ↦ tells.memory e | inr one ↦ absurd (subst (IsAmong kind) clean one) ] in (
         λ is. memory,
-        λ cut brief any progress nodes text worst path is. memory,
-        λ cut brief progress any nodes worst text bound path is written. memory,
-        λ cut brief any nodes progress text worst path is. memory,
-        λ nodes progress cut brief any text worst path most is written. memory,
+        λ cut brief any progress nodes pairs text worst path is. memory,
+        λ cut brief progress any nodes pairs worst text bound path is written. memory,
+        λ cut brief any nodes pairs progress text worst path is. memory,
+        λ nodes pairs progress cut brief any text worst path most is written. no-valuing (parts_of nodes pairs most) progress memory,
       )
 
   -- Where a parse gives some kinds of fault, the answer tells of one of these.
@@ -45,29 +51,31 @@ module _ (kinds : Kinds) (kind : ErrorKind) (fault : WordsFault) (among : (kind 
   told first others are = elim among [ inl e ↦ inl (tells.memory e) | inr one ↦ inr (kind, subst (IsAmong kind) are one, tells) ]
 
 -- What the arguments of a parsed command ask for.
-pub record AskedRows (rows : List Row) (flag brief any nodes progress bound worst path : Option Text) : Type 0 where
+pub record AskedRows (rows : List Row) (flag brief any nodes pairs progress bound worst path : Option Text) : Type 0 where
   pub flag_is : one_of (codes "cut") rows ≡ flag
   pub brief_is : one_of (codes "brief") rows ≡ brief
   pub any_is : one_of (codes "any") rows ≡ any
   pub nodes_is : one_of (codes "nodes") rows ≡ nodes
+  pub pairs_is : one_of (codes "pairs") rows ≡ pairs
   pub progress_is : one_of (codes "progress") rows ≡ progress
   pub bound_is : one_of (codes "history") rows ≡ bound
   pub worst_is : one_of (codes "worst") rows ≡ worst
   pub path_is : first_of (codes "problem") rows ≡ path
 
 -- Where a command was found, what is asked for is what its rows say.
-pub asked_rows : (found : Option (Text × List Row)) (rows : List Row) (name : Text) (flag brief any nodes progress bound worst path : Option Text)
+pub asked_rows : (found : Option (Text × List Row)) (rows : List Row) (name : Text) (flag brief any nodes pairs progress bound worst path : Option Text)
     → Some rows ≡ option_map (λ p. p.1) found → asked_of found
-    ≡ Some (record { command = name; cut = flag; brief = brief; any = any; nodes = nodes; progress = progress; history = bound; worst = worst; problem = path })
-    → AskedRows rows flag brief any nodes progress bound worst path
-asked_rows None rows name flag brief any nodes progress bound worst path has asked = cc
-asked_rows (Some p) rows name flag brief any nodes progress bound worst path has asked =
+    ≡ Some (record { command = name; cut = flag; brief = brief; any = any; nodes = nodes; pairs = pairs; progress = progress; history = bound; worst = worst; problem = path })
+    → AskedRows rows flag brief any nodes pairs progress bound worst path
+asked_rows None rows name flag brief any nodes pairs progress bound worst path has asked = cc
+asked_rows (Some p) rows name flag brief any nodes pairs progress bound worst path has asked =
     let same : rows ≡ p.1 = cc in
     rw same (record {
       flag_is = ap (option_and_then (λ (q : Asked). q.cut)) asked;
       brief_is = ap (option_and_then (λ (q : Asked). q.brief)) asked;
       any_is = ap (option_and_then (λ (q : Asked). q.any)) asked;
       nodes_is = ap (option_and_then (λ (q : Asked). q.nodes)) asked;
+      pairs_is = ap (option_and_then (λ (q : Asked). q.pairs)) asked;
       progress_is = ap (option_and_then (λ (q : Asked). q.progress)) asked;
       bound_is = ap (option_and_then (λ (q : Asked). q.history)) asked;
       worst_is = ap (option_and_then (λ (q : Asked). q.worst)) asked;
@@ -84,11 +92,6 @@ pub same-solving : {cut wanted brief short any some progress told : Bool} → cu
     → solving cut brief any progress ≡ solving wanted short some told
 same-solving c b a p = cc
 
--- Valuings that are asked for with equal parts are equal.
-pub same-valuing : {nodes wanted progress told : Bool} {worst most : Option ℕ} → nodes ≡ wanted → worst ≡ most → progress ≡ told
-    → valuing nodes worst progress ≡ valuing wanted most told
-same-valuing n w p = cc
-
 -- a flag reads as its text says
 pub flag_reads : (cut read : Bool) (text : Option Text) → (text ≡ Some (codes "true") → read ≡ true)
     → (text ≡ Some (codes "false") → read ≡ false) → text ≡ Some (bool_text cut) → read ≡ cut
@@ -102,3 +105,8 @@ most_reads None None read all some is = all refl
 most_reads None (Some most) read all some is = absurd is
 most_reads (Some text) None read all some is = absurd is
 most_reads (Some text) (Some most) read all some is = some text most refl is
+
+-- The parts are those that equal options ask for.
+pub same-parts : {nodes wanted pairs also : Bool} {worst most : Option ℕ} → nodes ≡ wanted → pairs ≡ also → worst ≡ most
+    → parts_of nodes pairs worst ≡ parts_of wanted also most
+same-parts n p w = rw (n, p, w) refl

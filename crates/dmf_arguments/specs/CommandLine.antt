@@ -48,7 +48,9 @@ abbrev pub check_line : App
 check_line = with_rule (new_app (codes "check")) problem_rule
 
 abbrev pub vital_line : App
-vital_line = with_rule (with_rule (with_rule (new_app (codes "vital")) (flag_rule (codes "nodes"))) (flag_rule (codes "progress"))) worst_rule
+vital_line =
+    with_rule (with_rule (with_rule (with_rule (new_app (codes "vital")) (flag_rule (codes "nodes"))) (flag_rule (codes "pairs")))
+    (flag_rule (codes "progress"))) worst_rule
 
 -- the program itself, which has a version
 abbrev pub program_line : App
@@ -66,13 +68,14 @@ IsRule rule arg = (rule_of arg ≡ rule) × (arg.global ≡ false)
 abbrev pub IsCommandLine : App → Command → Type 0
 IsCommandLine line made = (app_of made ≡ line) × ((fields_of made).has_globals ≡ false)
 
--- the command that a parse finds, with the texts of its five flags, of its two numbers and of its path, where it has them
+-- the command that a parse finds, with the texts of its six flags, of its two numbers and of its path, where it has them
 pub record Asked : Type 0 where
   pub command : Text
   pub cut : Option Text
   pub brief : Option Text
   pub any : Option Text
   pub nodes : Option Text
+  pub pairs : Option Text
   pub progress : Option Text
   pub history : Option Text
   pub worst : Option Text
@@ -85,6 +88,7 @@ asked_of = option_map (λ found. record {
   brief = one_of (codes "brief") found.1;
   any = one_of (codes "any") found.1;
   nodes = one_of (codes "nodes") found.1;
+  pairs = one_of (codes "pairs") found.1;
   progress = one_of (codes "progress") found.1;
   history = one_of (codes "history") found.1;
   worst = one_of (codes "worst") found.1;

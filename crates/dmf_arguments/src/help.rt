@@ -24,6 +24,9 @@ pub const HISTORY: &str = "Keep at most N changes for undo";
 /// The option `--nodes`.
 pub const NODES: &str = "Leave out each node in turn, rather than each arc";
 
+/// The option `--pairs`.
+pub const PAIRS: &str = "Leave out pairs of arcs; needs --worst";
+
 /// The option `--progress`.
 pub const PROGRESS: &str = "Tell on standard error how far it is";
 
@@ -50,7 +53,7 @@ pub const PROGRAM: Help = Help {
     usage: "dmf [solve [--any] [--brief] [--cut] [--progress]] <FILE
        dmf session [--brief] [--cut] [--history N] [--progress] PROBLEM
        dmf check PROBLEM <SOLUTION
-       dmf vital [--nodes] [--progress] [--worst N] <FILE",
+       dmf vital [--nodes | --pairs] [--progress] [--worst N] <FILE",
     notes: "How much can the network carry, and where is its limit?
   $ dmf solve --cut <network.max | grep -v '^f'
   s 5
@@ -170,8 +173,8 @@ status 1. man dmf has the formats.",
 
 /// The help of `dmf vital`.
 pub const VITAL: Help = Help {
-    about: "Find how much can be sent without each arc, or without each node",
-    usage: "dmf vital [--nodes] [--progress] [--worst N] <FILE",
+    about: "Find how much can be sent without each arc, node or pair of arcs",
+    usage: "dmf vital [--nodes | --pairs] [--progress] [--worst N] <FILE",
     notes: "Example:
   $ dmf vital <network.max
   c value 5
@@ -198,6 +201,13 @@ With --worst N only the N that cost most to lose have a line, the worst first:
   c value 5
   v 1 2
   v 5 2
+
+With --pairs and --worst N each line v has the numbers of two arcs, and how much
+can be sent if both are closed:
+  $ dmf vital --pairs --worst 2 <network.max
+  c value 5
+  v 1 2 0
+  v 1 5 0
 
 man dmf has the formats.",
 };

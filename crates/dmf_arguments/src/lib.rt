@@ -2,7 +2,9 @@
 #![tactic(auto)]
 
 pub use laws::plain_words_are_read;
-pub use words::{Arguments, MAX_HISTORY, MAX_WORST, Mode, WordsFault, read_arguments, read_words};
+pub use words::{
+    Arguments, MAX_HISTORY, MAX_WORST, Mode, Parts, WordsFault, read_arguments, read_words,
+};
 
 mod help;
 mod laws;

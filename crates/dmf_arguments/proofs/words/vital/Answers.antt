@@ -5,5 +5,6 @@ use Rattle.dmf_arguments.proofs.words.vital.Goals as goal
 pub returns : goal.returns
 returns c =
     let nodes = line_with c.in_ok-arg.ensures c.flag.ensures c.named.ensures in
-    let progress = line_with c.in_ok-arg-2.ensures c.flag-2.ensures nodes in
-    IfOk-weaker c.arg-3.result _ _ (λ made adds. line_with adds c.worst.ensures progress) c.arg-3.ensures
+    let pairs = line_with c.in_ok-arg-2.ensures c.flag-2.ensures nodes in
+    let progress = line_with c.in_ok-arg-3.ensures c.flag-3.ensures pairs in
+    IfOk-weaker c.arg-4.result _ _ (λ made adds. line_with adds c.worst.ensures progress) c.arg-4.ensures
