@@ -22,7 +22,7 @@ fn draw(chance: &mut u64, bound: u64) -> u64
 }
 
 /// A network of 2 to 7 nodes and up to 15 arcs: some parallel, self loops, without capacity or closed, and some capacities near 2^62.
-fn network(alloc: Global, seed: u64) -> Result<State, Fail> {
+pub fn network(alloc: Global, seed: u64) -> Result<State, Fail> {
     let mut chance = seed;
     let nodes = 2 + (seed % 6) as u32;
     let mut state = State::new(alloc, nodes, 1, nodes);
@@ -41,7 +41,7 @@ fn network(alloc: Global, seed: u64) -> Result<State, Fail> {
 }
 
 /// Solves the state.
-fn solve(alloc: Global, state: &mut State) -> Result<(), Fail> {
+pub fn solve(alloc: Global, state: &mut State) -> Result<(), Fail> {
     let edit = plan_solve(alloc, state)?;
     state.apply(&edit)?;
     Ok(())
@@ -196,9 +196,21 @@ fn the_example(rt: HostRuntime) -> Result<(), Fail> {
     let losses = arc_losses(rt.alloc(), &state)?;
     assert!(rt; losses.as_slice() == [3, 2, 1, 2, 3].as_slice());
     let worst = worst_arcs(rt.alloc(), &state, 3)?;
-    let one = NumberedLoss { number: 1, loss: 3 };
-    let two = NumberedLoss { number: 5, loss: 3 };
-    let three = NumberedLoss { number: 2, loss: 2 };
+    let one = NumberedLoss {
+        number: 1,
+        second: 0,
+        loss: 3,
+    };
+    let two = NumberedLoss {
+        number: 5,
+        second: 0,
+        loss: 3,
+    };
+    let three = NumberedLoss {
+        number: 2,
+        second: 0,
+        loss: 2,
+    };
     assert!(rt; worst.as_slice() == [one, two, three].as_slice());
     if state.arcs().len() == 5 {
         assert!(rt; value_without_arc(rt.alloc(), &state, 3)? == 4);
