@@ -11,7 +11,7 @@ pub enum Meant<'a> {
         flags: SolveFlags,
         file: &'a str,
     },
-    /// To value each arc, or each node, of the problem in this file, which has to come from standard input.
+    /// To leave out parts of the problem in this file in turn, which has to come from standard input.
     Vital {
         flags: VitalFlags<'a>,
         file: &'a str,
@@ -36,18 +36,20 @@ pub struct SolveFlags {
     cut: bool,
 }
 
-/// The options before a file whose parts are valued.
+/// The options before a file whose parts are left out in turn. With `pairs` there is a number of the worst, and no `nodes`.
 #[derive(Clone, Copy)]
 pub struct VitalFlags<'a> {
     nodes: bool,
+    pairs: bool,
     worst: Option<&'a str>,
 }
 
 impl fmt::Display for VitalFlags<'_> {
     fn fmt<W: fmt::Write>(&self, f: &mut fmt::Formatter<W>) -> fmt::Result {
         let nodes = if self.nodes { "--nodes " } else { "" };
+        let pairs = if self.pairs { "--pairs " } else { "" };
         match self.worst {
-            Some(worst) => write!(f, "{nodes}--worst {worst} "),
+            Some(worst) => write!(f, "{nodes}{pairs}--worst {worst} "),
             None => write!(f, "{nodes}"),
         }
     }
@@ -142,6 +144,7 @@ fn solve_of(words: &[String]) -> Option<Meant<'_>> {
 /// The run that the words after `vital` may mean: they have one file beside the options, whose name needs no quotes.
 fn vital_of(words: &[String]) -> Option<Meant<'_>> {
     let mut nodes = false;
+    let mut pairs = false;
     let mut worst: Option<&str> = None;
     let mut is_worst = false;
     let mut meant: Option<&str> = None;
@@ -153,13 +156,21 @@ fn vital_of(words: &[String]) -> Option<Meant<'_>> {
                 is_worst = false;
             }
             "--nodes" => nodes = true,
+            "--pairs" => pairs = true,
             "--worst" => is_worst = true,
             file if meant.is_none() && is_file_name(file) => meant = Some(file),
             _ => return None,
         }
     }
+    if pairs && (nodes || worst.is_none()) {
+        return None;
+    }
     let file = meant?;
-    let flags = VitalFlags { nodes, worst };
+    let flags = VitalFlags {
+        nodes,
+        pairs,
+        worst,
+    };
     Some(Meant::Vital { flags, file })
 }
 

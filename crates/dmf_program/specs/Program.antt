@@ -1,9 +1,11 @@
 -- What the program does: which run its arguments ask for, on what, and how it ends.
 -- Public: a public contract says no more than this.
-use Rattle.std.specs.Prelude.{ℕ, ◌≡◌, ◌⊎◌, List, [], ◌∷◌, ◌++◌, Bool, true, false, Option, None, Some, Result, Ok, Err, IfErr, codes}
+use Rattle.std.specs.Prelude.{ℕ, ◌≡◌, ◌⊎◌, List, [], ◌∷◌, ◌++◌, Bool, true, false, Result, Ok, Err, IfErr, codes}
 use Rattle.std.specs.Str.{trim_end}
 use Rattle.dmf_arguments.specs.Words.{Task, solving, holding, checking, valuing, task_of, ReadsWords}
 use Rattle.dmf_arguments.specs.declared.words.Arguments.{Arguments}
+use Rattle.dmf_arguments.specs.declared.words.Parts.{Parts}
+use Rattle.dmf_arguments.specs.declared.words.Parts.TheVariants.{Arcs, Nodes, WorstArcs, WorstNodes, WorstPairs}
 use Rattle.dmf_arguments.specs.declared.words.WordsFault.{WordsFault}
 use Rattle.dmf_arguments.specs.declared.words.WordsFault.TheVariants as words
 use Rattle.dmf_text.specs.Streams.{Reader, Writer}
@@ -15,7 +17,7 @@ use Rattle.dmf_streams.specs.declared.fault.EngineFault.{EngineFault}
 use Rattle.dmf_streams.specs.declared.fault.EngineFault.TheVariants as engine
 use Rattle.dmf_solving.specs.SolveRun.{RunsSolve, RunsBrief, RunsAny}
 use Rattle.dmf_solving.specs.CheckRun.{RunsCheck}
-use Rattle.dmf_valuing.specs.Rows.{AreArcRows, AreNodeRows, AreWorstArcRows, AreWorstNodeRows}
+use Rattle.dmf_valuing.specs.Rows.{AreArcRows, AreNodeRows, AreWorstArcRows, AreWorstNodeRows, AreWorstPairRows}
 use Rattle.dmf_valuing.specs.VitalRun.{RunsVital}
 use Rattle.dmf_runs.specs.Streams.{Streams}
 use Rattle.dmf_runs.specs.Session.{RunsSessionWith}
@@ -48,12 +50,13 @@ RunsSolving cut true any = RunsBrief cut
 RunsSolving cut false true = RunsAny cut
 RunsSolving cut false false = RunsSolve cut
 
--- A run that values each node, or else each arc, or so many of the worst.
-abbrev pub RunsValuing : Bool → Option ℕ → Reader → Reader → Writer → Writer → Result Status EngineFault → Type 0
-RunsValuing true None = RunsVital AreNodeRows
-RunsValuing false None = RunsVital AreArcRows
-RunsValuing true (Some most) = RunsVital (AreWorstNodeRows most)
-RunsValuing false (Some most) = RunsVital (AreWorstArcRows most)
+-- A run that leaves out each of these parts in turn.
+abbrev pub RunsValuing : Parts → Reader → Reader → Writer → Writer → Result Status EngineFault → Type 0
+RunsValuing Arcs = RunsVital AreArcRows
+RunsValuing Nodes = RunsVital AreNodeRows
+RunsValuing (WorstArcs most) = RunsVital (AreWorstArcRows most)
+RunsValuing (WorstNodes most) = RunsVital (AreWorstNodeRows most)
+RunsValuing (WorstPairs most) = RunsVital (AreWorstPairRows most)
 
 -- The file at the path was opened, and the program ends as a run on its reader that is so.
 pub record RunsOnFile (Opens : Opening) (path : List ℕ) (Runs : Reader → Reader → Result Status EngineFault → Type 0)
@@ -74,8 +77,8 @@ pub record FindsNoFile (Opens : Opening) (path : List ℕ) (old new : Streams) (
 abbrev pub RunsOn : Opening → List ℕ → Streams → Streams → (Reader → Reader → Result Status EngineFault → Type 0) → Result Status Fault → Type 0
 RunsOn Opens path old new Runs result = RunsOnFile Opens path Runs result ⊎ FindsNoFile Opens path old new result
 
--- The run of a task, over standard input and standard output. A solve reads its problem from standard input, and so does a run that values
--- each arc or each node. A session and a check read it from the file at their path, and the commands or the solution from standard input.
+-- The run of a task, over standard input and standard output. A solve reads its problem from standard input, and so does a run that leaves
+-- out parts in turn. A session and a check read it from the file at their path, and the commands or the solution from standard input.
 -- Progress is no part of this: it goes to standard error, of which no definition speaks.
 abbrev pub RunsTask : Opening → Task → Streams → Streams → Result Status Fault → Type 0
 RunsTask Opens (solving cut brief any progress) old new result =
@@ -84,7 +87,7 @@ RunsTask Opens (holding cut brief progress bound path) old new result =
     RunsOn Opens path old new (λ from to. RunsSessionWith (record { cut = cut; brief = brief }) bound from to old new) result
 RunsTask Opens (checking path) old new result =
     RunsOn Opens path old new (λ from to. RunsCheck from to old.reader new.reader old.writer new.writer) result
-RunsTask Opens (valuing nodes worst progress) old new result = EndsAs (RunsValuing nodes worst old.reader new.reader old.writer new.writer) result
+RunsTask Opens (valuing parts progress) old new result = EndsAs (RunsValuing parts old.reader new.reader old.writer new.writer) result
 
 -- ---- the program
 

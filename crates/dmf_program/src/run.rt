@@ -5,14 +5,16 @@ ghost use Rattle.dmf_runs.specs.Streams.{streams_of};
 ghost use Rattle.dmf_program.specs.Program.{RunsSolving, RunsTask, RunsValuing, ended};
 
 use crate::files::Files;
-use dmf_arguments::{Arguments, Mode};
+use dmf_arguments::{Arguments, Mode, Parts};
 use dmf_host::Fault;
 use dmf_runs::{SessionWatch, SolveReply, run_session_watched};
 use dmf_solver::Watch;
 use dmf_solving::{run_check, run_solve_any, run_solve_brief, run_solve_watched};
 use dmf_streams::{EngineFault, Status};
 use dmf_text::{Sink, Source};
-use dmf_valuing::{run_vital, run_vital_nodes, run_vital_worst, run_vital_worst_nodes};
+use dmf_valuing::{
+    run_vital, run_vital_nodes, run_vital_worst, run_vital_worst_nodes, run_vital_worst_pairs,
+};
 use std::alloc::Global;
 
 /// What a solve is to write.
@@ -26,7 +28,7 @@ pub struct SolveAnswer {
     pub any: bool,
 }
 
-/// Runs what the arguments ask for. A solve reads its problem from standard input, and so does a run that values each arc or each node. A
+/// Runs what the arguments ask for. A solve reads its problem from standard input, and so does a run that leaves out parts in turn. A
 /// session and a check read it from the file at the path of the arguments, and the commands or the solution from standard input.
 ///
 /// Fails with the fault of the opening if the file cannot be opened. Then nothing is read and nothing is written. Else fails as the
@@ -68,9 +70,7 @@ pub fn run_program<P: Source + Drop, F: Files<P>, C: Source, W: Sink, V: Session
             let mut problem = files.open(path.as_str())?;
             ended(run_check(alloc, &mut problem, input, out))
         }
-        Mode::Vital { nodes, worst } => {
-            ended(run_valuing(alloc, *nodes, *worst, input, out, watch))
-        }
+        Mode::Vital { parts } => ended(run_valuing(alloc, *parts, input, out, watch)),
     }
 }
 
@@ -98,30 +98,26 @@ pub fn run_solving<P: Source, W: Sink, V: Watch>(
     }
 }
 
-/// Writes the greatest value of a problem, and that without each arc or each node; `worst` limits the list to that many, the worst first.
+/// Writes the greatest value of a problem, and that without each of these parts.
 ///
 /// Fails as [`run_vital`] does.
 #[inline(never)]
 fn run_valuing<P: Source, W: Sink, V: Watch>(
     alloc: Global,
-    nodes: bool,
-    worst: Option<u32>,
+    parts: Parts,
     problem: &mut P,
     out: &mut W,
     watch: &mut V,
 ) -> Result<Status, EngineFault>
-    ensures { RunsValuing nodes worst (P.left problem.old) (P.left problem.new) (W.written out.old) (W.written out.new) result }
+    ensures { RunsValuing parts (P.left problem.old) (P.left problem.new) (W.written out.old) (W.written out.new) result }
 {
-    if let Some(most) = worst {
-        if nodes {
-            return run_vital_worst_nodes(alloc, most, problem, out, watch);
-        }
-        return run_vital_worst(alloc, most, problem, out, watch);
+    match parts {
+        Parts::Arcs => run_vital(alloc, problem, out, watch),
+        Parts::Nodes => run_vital_nodes(alloc, problem, out, watch),
+        Parts::WorstArcs(most) => run_vital_worst(alloc, most, problem, out, watch),
+        Parts::WorstNodes(most) => run_vital_worst_nodes(alloc, most, problem, out, watch),
+        Parts::WorstPairs(most) => run_vital_worst_pairs(alloc, most, problem, out, watch),
     }
-    if nodes {
-        return run_vital_nodes(alloc, problem, out, watch);
-    }
-    run_vital(alloc, problem, out, watch)
 }
 
 /// How the program ends whose run ended so.

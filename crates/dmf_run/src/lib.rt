@@ -2,7 +2,7 @@
 #![tactic(auto)]
 
 pub use dmf_arguments::{
-    Arguments, MAX_HISTORY, MAX_WORST, Mode, WordsFault, read_arguments, read_words,
+    Arguments, MAX_HISTORY, MAX_WORST, Mode, Parts, WordsFault, read_arguments, read_words,
 };
 pub use dmf_runs::{
     EngineFault, MAX_BYTES, MAX_LINE, MAX_LINES, SessionWatch, SolveReply, Status, read_command,
@@ -10,4 +10,6 @@ pub use dmf_runs::{
     run_session_watched, run_solve, run_solve_watched, status_of,
 };
 pub use dmf_solving::{run_solve_any, run_solve_brief};
-pub use dmf_valuing::{run_vital, run_vital_nodes, run_vital_worst, run_vital_worst_nodes};
+pub use dmf_valuing::{
+    run_vital, run_vital_nodes, run_vital_worst, run_vital_worst_nodes, run_vital_worst_pairs,
+};

@@ -1,7 +1,7 @@
 //! Runs from bytes to bytes, single command lines, and the program's arguments.
 use dmf_net::Unwatched;
 use dmf_run::{
-    EngineFault, Mode, SolveReply, Status, WordsFault, read_command, read_words, refusal_text,
+    EngineFault, Mode, Parts, SolveReply, Status, WordsFault, read_command, read_words, refusal_text,
     run_check, run_commands, run_session, run_session_bounded, run_session_watched, run_solve,
     run_vital, run_vital_nodes, status_of,
 };
@@ -166,17 +166,20 @@ fn number_of(asked: &Result<Mode, WordsFault>) -> u32 {
         Ok(Mode::Check { problem: _ }) => 3,
         Ok(
             Mode::Vital {
-                nodes: false,
-                worst: None,
+                parts: Parts::Arcs,
             },
         ) => 4,
         Ok(
             Mode::Vital {
-                nodes: true,
-                worst: Some(_),
+                parts: Parts::WorstNodes(3),
             },
         ) => 5,
-        Ok(Mode::Vital { nodes: _, worst: _ }) => 6,
+        Ok(
+            Mode::Vital {
+                parts: Parts::WorstPairs(2),
+            },
+        ) => 6,
+        Ok(Mode::Vital { parts: _ }) => 7,
         Err(WordsFault::Help(_)) => 11,
         Err(WordsFault::Usage(_)) => 12,
         Err(WordsFault::NoMemory) => 13,
@@ -184,12 +187,15 @@ fn number_of(asked: &Result<Mode, WordsFault>) -> u32 {
 }
 
 /// Words, each with the number of what they ask for.
-const WORDS: [(&str, u32); 8] = [
+const WORDS: [(&str, u32); 11] = [
     ("", 1),
     ("session --cut P", 2),
     ("check P", 3),
     ("vital", 4),
     ("vital --nodes --worst 3", 5),
+    ("vital --worst 2 --pairs", 6),
+    ("vital --pairs", 12),
+    ("vital --pairs --nodes --worst 2", 12),
     ("--help", 11),
     ("--version", 11),
     ("wash", 12),

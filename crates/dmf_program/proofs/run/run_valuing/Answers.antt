@@ -1,7 +1,16 @@
 use Rattle.dmf_program.proofs.run.run_valuing.Goals as goal
 
-pub returns-then-nodes : goal.returns-then-nodes
-returns-then-nodes g c = rw (c.in-Some.is, c.if-nodes.true) c.run_vital_worst_nodes.ensures.run
+pub returns-in-Arcs : goal.returns-in-Arcs
+returns-in-Arcs g c = rw c.in-Arcs.is c.run_vital.ensures.run
 
-pub returns-in-Some : goal.returns-in-Some
-returns-in-Some g c = rw (c.in-Some.is, c.if-nodes.false) c.run_vital_worst.ensures.run
+pub returns-in-Nodes : goal.returns-in-Nodes
+returns-in-Nodes g c = rw c.in-Nodes.is c.run_vital_nodes.ensures.run
+
+pub returns-in-WorstArcs : goal.returns-in-WorstArcs
+returns-in-WorstArcs g c = rw c.in-WorstArcs.is c.run_vital_worst.ensures.run
+
+pub returns-in-WorstNodes : goal.returns-in-WorstNodes
+returns-in-WorstNodes g c = rw c.in-WorstNodes.is c.run_vital_worst_nodes.ensures.run
+
+pub returns-in-WorstPairs : goal.returns-in-WorstPairs
+returns-in-WorstPairs g c = rw c.in-WorstPairs.is c.run_vital_worst_pairs.ensures.run
