@@ -120,9 +120,15 @@ LIKE_OTHERS = {
     *(f"dmf_session_capacities ({name})" for name in ("answer", "filled", "refused")),
     *(f"dmf_session_arc_losses ({name})" for name in ("answer", "refused")),
     *(f"dmf_session_node_losses ({name})" for name in ("answer", "filled")),
+    "dmf_session_pair_losses (refused)",
+    *(f"dmf_session_worst_{parts} (answer)" for parts in ("arcs", "nodes", "pairs")),
+    *(f"dmf_session_worst_{parts} (refused)" for parts in ("nodes", "pairs")),
     *(
         f"dmf_session_{call} (unchanged)"
-        for call in ("side", "arc_losses", "node_losses", "problem", "solution")
+        for call in (
+            *("side", "arc_losses", "node_losses", "pair_losses"),
+            *("worst_arcs", "worst_nodes", "worst_pairs", "problem", "solution"),
+        )
     ),
 }
 # A clause which says that the value that a call reads is one of its type.

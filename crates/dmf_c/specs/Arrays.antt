@@ -83,8 +83,11 @@ pub record AreNodeLosses (n : Network) (losses : List ℕ) : Type 0 where
   pub size : length losses ≡ n.nodes
   pub each : (k : ℕ) → k < length losses → IsLossAt n (k + 1) (slice_index losses k)
 
--- The answer to a caller that asks for losses with an array of length `given`, which should have length `wanted`: that the lengths differ; that no flow
--- has a larger value, or that some flow has; or that memory was refused.
+-- The answer to a caller that asks for losses in the right way: that no flow has a larger value, or that some flow has; or that memory was refused.
+abbrev pub TellsLosses : NetworkState → ℕ → Type 0
+TellsLosses s code = (code ≡ DMF_NO_MEMORY) ⊎ TellsGreatest s s.flows code
+
+-- The answer to a caller that asks for losses with an array of length `given`, which should have length `wanted`: that the lengths differ, or as
+-- above.
 abbrev pub AnswersLosses : NetworkState → ℕ → ℕ → ℕ → Type 0
-AnswersLosses s given wanted code =
-    MatchBool (nat_eq given wanted) ((code ≡ DMF_NO_MEMORY) ⊎ TellsGreatest s s.flows code) (code ≡ DMF_BAD_LENGTH)
+AnswersLosses s given wanted code = MatchBool (nat_eq given wanted) (TellsLosses s code) (code ≡ DMF_BAD_LENGTH)

@@ -6,7 +6,9 @@ pub mod Building
 pub mod Built
 pub mod Opening
 pub mod Arrays
+pub mod Pairs
 pub mod Ranges
+pub mod Worst
 pub mod MaximumFlow
 pub mod FaultNumber
 pub mod Texts

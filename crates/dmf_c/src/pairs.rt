@@ -1,0 +1,79 @@
+//! What chosen pairs of arcs of the present network are worth.
+ghost use Rattle.std.specs.Prelude.{◌≡◌, ◌≢◌, length};
+ghost use Rattle.dmf_state.specs.Network.{has_arc};
+ghost use Rattle.dmf_c.specs.Codes.{OfPresent};
+ghost use Rattle.dmf_c.specs.Pairs.{AnswersPairLosses, ArePairLosses, are_arcs};
+ghost use Rattle.dmf_c.specs.Status.{DMF_OK};
+
+use crate::checking::greatest;
+use crate::handle::Handle;
+use dmf_state::State;
+use dmf_vital::pair_losses;
+use std::alloc::Global;
+
+/// What is lost without both arcs of each pair.
+#[unsafe(no_mangle)]
+pub extern "C" fn dmf_session_pair_losses(
+    alloc: Global,
+    session: &mut Handle,
+    firsts: &[u32],
+    seconds: &[u32],
+    losses: &mut [u64],
+) -> u32
+    ensures answer { OfPresent session.old.timeline (λ s. AnswersPairLosses s firsts.now seconds.now (length losses.old) result) }
+    ensures filled { OfPresent session.old.timeline (λ s. result ≡ DMF_OK → ArePairLosses s.network firsts.now seconds.now losses.new) }
+    ensures refused { result ≢ DMF_OK → losses.new ≡ losses.old }
+    ensures unchanged { session.new.timeline ≡ session.old.timeline }
+{
+    let present = session.plan().present();
+    copy_pair_losses(alloc, present, firsts, seconds, losses)
+}
+
+fn copy_pair_losses(
+    alloc: Global,
+    state: &State,
+    firsts: &[u32],
+    seconds: &[u32],
+    losses: &mut [u64],
+) -> u32
+    ensures answer { AnswersPairLosses state.now firsts.now seconds.now (length losses.old) result }
+    ensures filled { result ≡ DMF_OK → ArePairLosses state.now.network firsts.now seconds.now losses.new }
+    ensures refused { result ≢ DMF_OK → losses.new ≡ losses.old }
+{
+    if !(firsts.len() == losses.len() && seconds.len() == losses.len()) {
+        return 10;
+    }
+    if !(are_arcs(state, firsts) && are_arcs(state, seconds)) {
+        return 3;
+    }
+    let code = greatest(alloc, state);
+    if code != 0 {
+        return code;
+    }
+    match pair_losses(alloc, state, firsts, seconds) {
+        Ok(of_pairs) => {
+            losses.copy_from_slice(&of_pairs);
+            0
+        }
+        Err(_) => 1,
+    }
+}
+
+/// Whether each of these is the number of an arc.
+fn are_arcs(state: &State, numbers: &[u32]) -> bool
+    ensures { result ≡ are_arcs state.now.network numbers.now }
+{
+    for i in 0..numbers.len() {
+        if !has_arc(state, numbers[i]) {
+            return false;
+        }
+    }
+    true
+}
+
+/// Whether there is an arc of this number.
+fn has_arc(state: &State, number: u32) -> bool
+    ensures { result ≡ has_arc state.now.network number }
+{
+    1 <= number && number as usize <= state.arcs().len()
+}
