@@ -237,6 +237,26 @@ enum dmf_status dmf_session_maximum_flow(const dmf_session *session, uint64_t *v
 enum dmf_status dmf_session_arc_losses(const dmf_session *session, uint64_t *losses, size_t count);
 enum dmf_status dmf_session_node_losses(const dmf_session *session, uint64_t *losses, size_t count);
 
+/* What two arcs are worth together: losses[k] becomes how much less the greatest value is if only arcs firsts[k] and seconds[k] are
+ * closed, which may be the same arc. The three lengths must be the same, or the answer is DMF_BAD_LENGTH. DMF_NO_SUCH_ARC,
+ * whatever the flow is. DMF_NOT_GREATEST as above. Let pairs with the same first arc stand together: that is much faster. */
+enum dmf_status dmf_session_pair_losses(const dmf_session *session, const uint32_t *firsts, size_t first_count,
+                                        const uint32_t *seconds, size_t second_count,
+                                        uint64_t *losses, size_t loss_count);
+
+/* The arcs, the nodes besides the source and the sink, or the pairs of arcs whose loss is greatest, the greatest first. Equal
+ * losses go by the number; pairs have firsts[k] < seconds[k], and go by firsts[k], and then by seconds[k]. The lengths
+ * must be the same, or the answer is DMF_BAD_LENGTH, whatever the flow is. DMF_NOT_GREATEST as above. *found becomes how many
+ * elements of each array are written, from index 0 on: all, or as many arcs, nodes or pairs as there are. The other elements
+ * are unchanged. A short list is faster than the losses of all. */
+enum dmf_status dmf_session_worst_arcs(const dmf_session *session, uint32_t *arcs, size_t arc_count,
+                                       uint64_t *losses, size_t loss_count, size_t *found);
+enum dmf_status dmf_session_worst_nodes(const dmf_session *session, uint32_t *nodes, size_t node_count,
+                                        uint64_t *losses, size_t loss_count, size_t *found);
+enum dmf_status dmf_session_worst_pairs(const dmf_session *session, uint32_t *firsts, size_t first_count,
+                                        uint32_t *seconds, size_t second_count,
+                                        uint64_t *losses, size_t loss_count, size_t *found);
+
 /* Judges `count` flows, one for each arc, of the present network; the session's own flow does not matter. DMF_OK: they are a
  * maximum flow. DMF_OVER_CAPACITY: *place is the number of the first arc with too much. DMF_NOT_CONSERVED: *place is the number
  * of the first node at which flow is lost or made. DMF_NEGATIVE. DMF_NOT_GREATEST: they are a flow, and some flow has a larger

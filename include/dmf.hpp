@@ -365,6 +365,44 @@ public:
         detail::expect_ok(dmf_session_node_losses(live(), into.data(), into.size()));
     }
 
+    /// Returns what two arcs are worth together: at index k how much less the greatest value is if only arcs firsts[k] and
+    /// seconds[k] are closed. May take long. Throws as arc_losses() does, and error with bad_length or no_such_arc.
+    [[nodiscard]] std::vector<std::uint64_t> pair_losses(span<const std::uint32_t> firsts,
+                                                         span<const std::uint32_t> seconds) const {
+        std::vector<std::uint64_t> found(firsts.size());
+        pair_losses(firsts, seconds, found);
+        return found;
+    }
+
+    /// Writes these losses into an array with an element for each pair. Throws as the function above does.
+    void pair_losses(span<const std::uint32_t> firsts, span<const std::uint32_t> seconds, span<std::uint64_t> into) const {
+        detail::expect_ok(dmf_session_pair_losses(live(), firsts.data(), firsts.size(), seconds.data(), seconds.size(),
+                                                  into.data(), into.size()));
+    }
+
+    /// Writes the arcs whose loss is greatest and their losses, the greatest first, into arrays of the same length. Returns
+    /// how many are written: as many as there is room for, or all arcs. Throws as arc_losses() does, and error with bad_length.
+    std::size_t worst_arcs(span<std::uint32_t> arcs, span<std::uint64_t> losses) const {
+        std::size_t found = 0;
+        detail::expect_ok(dmf_session_worst_arcs(live(), arcs.data(), arcs.size(), losses.data(), losses.size(), &found));
+        return found;
+    }
+
+    /// Writes the nodes besides the source and the sink whose loss is greatest, as worst_arcs() writes arcs.
+    std::size_t worst_nodes(span<std::uint32_t> nodes, span<std::uint64_t> losses) const {
+        std::size_t found = 0;
+        detail::expect_ok(dmf_session_worst_nodes(live(), nodes.data(), nodes.size(), losses.data(), losses.size(), &found));
+        return found;
+    }
+
+    /// Writes the pairs of arcs whose loss is greatest, as worst_arcs() writes arcs; of a pair the smaller number is in `firsts`.
+    std::size_t worst_pairs(span<std::uint32_t> firsts, span<std::uint32_t> seconds, span<std::uint64_t> losses) const {
+        std::size_t found = 0;
+        detail::expect_ok(dmf_session_worst_pairs(live(), firsts.data(), firsts.size(), seconds.data(), seconds.size(),
+                                                  losses.data(), losses.size(), &found));
+        return found;
+    }
+
     /// Judges flows, one for each arc, as flows of the present network; the session's own flow does not matter. A wrong
     /// flow is an answer and not an error. Throws error with bad_length, or std::bad_alloc.
     [[nodiscard]] judgement check(span<const std::uint64_t> flows) const {

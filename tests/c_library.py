@@ -60,7 +60,8 @@ def want(status: int, place: int = 0) -> None:
 ODD = 0xA5
 ODD_NUMBER = 0xA5A5_A5A5
 # Numbers of `enum dmf_status`.
-NO_MEMORY, NO_SUCH_NODE, TOO_MANY_ARCS, SUM_TOO_LARGE, BAD_LENGTH, BAD_TEXT = 1, 2, 5, 6, 10, 12
+NO_MEMORY, NO_SUCH_NODE, NO_SUCH_ARC, TOO_MANY_ARCS, SUM_TOO_LARGE = 1, 2, 3, 5, 6
+NOT_GREATEST, BAD_LENGTH, BAD_TEXT = 9, 10, 12
 
 
 def odd_array(
@@ -223,6 +224,49 @@ class CSession:
         want(status)
         flows, side = (tuple(map(int, place))[:-1] for place in places)
         return value.value, flows, side
+
+    def pair_losses(
+        self, firsts: Sequence[int], seconds: Sequence[int], count: int
+    ) -> tuple[int, ...]:
+        """Return what the call puts into an array of this length. Arrays of length 0 are NULL. The
+        place after the last stays, and a refused call puts nothing."""
+        places = odd_array(c_uint64, count)
+        before = bytes(places)
+        status = self.calls.dmf_session_pair_losses(
+            self.session,
+            array_of(c_uint32, firsts),
+            c_size_t(len(firsts)),
+            array_of(c_uint32, seconds),
+            c_size_t(len(seconds)),
+            places if count else None,
+            c_size_t(count),
+        )
+        assert bytes(places)[8 * count :] == before[8 * count :]
+        assert status == 0 or bytes(places) == before
+        want(status)
+        return tuple(map(int, places))[:-1]
+
+    def worst(self, parts: str, lengths: Sequence[int]) -> list[tuple[int, ...]]:
+        """Return what dmf_session_worst_PARTS puts into arrays of these lengths, the last one for
+        losses: the numbers and the loss of each. Arrays of length 0 are NULL. What is past those
+        that are found stays, and a refused call puts nothing."""
+        kinds = [*[c_uint32] * (len(lengths) - 1), c_uint64]
+        places = [odd_array(kind, length) for kind, length in zip(kinds, lengths)]
+        before, found = list(map(bytes, places)), c_size_t(ODD_NUMBER)
+        columns = [
+            part
+            for place, length in zip(places, lengths)
+            for part in (place if length else None, c_size_t(length))
+        ]
+        call = getattr(self.calls, f"dmf_session_worst_{parts}")
+        status = call(self.session, *columns, byref(found))
+        assert status == 0 or found.value == ODD_NUMBER
+        written = found.value if status == 0 else 0
+        for kind, place, odd in zip(kinds, places, before):
+            size = ctypes.sizeof(kind) * written
+            assert bytes(place)[size:] == odd[size:]
+        want(status)
+        return [tuple(map(int, row)) for row in zip(*(list(place)[:written] for place in places))]
 
     def state(self) -> tuple[object, ...]:
         """Return all that a call that changes nothing must leave as it is."""

@@ -192,6 +192,40 @@ void losing() {
     EXPECT(session.value() == 5 && session.past() == 1);
 }
 
+void losing_pairs() {
+    dmf::session session = example();
+    std::array<std::uint64_t, 3> losses{9, 9, 9};
+    const std::array<std::uint32_t, 3> firsts{4, 2, 3}, seconds{5, 4, 3};
+    REFUSED(not_greatest, (void)session.pair_losses(firsts, seconds));
+    session.solve();
+    EXPECT(session.pair_losses(firsts, seconds) == numbers{5, 2, 1} && session.pair_losses({}, {}).empty());
+    REFUSED(no_such_arc, session.pair_losses(firsts, {5, 4, 6}, losses));
+    REFUSED(bad_length, session.pair_losses(firsts, {5, 4}, losses));
+    EXPECT(losses[0] == 9);
+    session.pair_losses(firsts, seconds, losses);
+    EXPECT(losses == std::array<std::uint64_t, 3>{5, 2, 1});
+    EXPECT(session.value() == 5 && session.past() == 1);
+}
+
+void listing_the_worst() {
+    dmf::session session = example();
+    std::vector<std::uint32_t> firsts(3, 9), seconds(3, 9);
+    numbers losses(3, 9);
+    REFUSED(not_greatest, (void)session.worst_arcs(firsts, losses));
+    session.solve();
+    REFUSED(bad_length, (void)session.worst_arcs({firsts.data(), 2}, losses));
+    REFUSED(bad_length, (void)session.worst_nodes(firsts, {losses.data(), 2}));
+    REFUSED(bad_length, (void)session.worst_pairs(firsts, {seconds.data(), 2}, losses));
+    EXPECT(firsts == std::vector<std::uint32_t>(3, 9) && losses == numbers(3, 9));
+    EXPECT(session.worst_nodes(firsts, losses) == 2);
+    EXPECT(firsts == std::vector<std::uint32_t>{2, 3, 9} && losses == numbers{3, 3, 9});
+    EXPECT(session.worst_arcs(firsts, losses) == 3);
+    EXPECT(firsts == std::vector<std::uint32_t>{1, 5, 2} && losses == numbers{3, 3, 2});
+    EXPECT(session.worst_pairs(firsts, seconds, losses) == 3 && losses == numbers{5, 5, 5});
+    EXPECT(firsts == std::vector<std::uint32_t>{1, 1, 4} && seconds == std::vector<std::uint32_t>{2, 5, 5});
+    EXPECT(session.value() == 5 && session.past() == 1);
+}
+
 void finding() {
     dmf::session session = example();
     std::array<std::uint64_t, 5> flows{9, 9, 9, 9, 9};
@@ -210,6 +244,7 @@ void without_arcs() {
     session.solve();
     EXPECT(session.value() == 0 && session.flows().empty() && session.check({}));
     EXPECT(session.arc_losses().empty() && session.node_losses() == numbers{0, 0});
+    EXPECT(session.worst_arcs({}, {}) == 0 && session.worst_nodes({}, {}) == 0 && session.worst_pairs({}, {}, {}) == 0);
     EXPECT(session.maximum_flow() == 0);
     EXPECT(session.problem() == "p max 2 0\nn 1 s\nn 2 t\n" && session.solution() == "s 0\n");
 }
@@ -222,6 +257,8 @@ int main() {
     changing();
     ranging();
     losing();
+    losing_pairs();
+    listing_the_worst();
     finding();
     owning();
     without_arcs();

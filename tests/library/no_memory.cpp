@@ -41,10 +41,16 @@ int main() {
     std::vector<std::uint64_t> of_arcs(5, 9), of_nodes(4, 9);
     count += is_refused([&] { session.arc_losses(of_arcs); });
     count += is_refused([&] { session.node_losses(of_nodes); });
+    std::vector<std::uint32_t> firsts(5, 9), seconds(5, 9);
+    count += is_refused([&] { session.pair_losses({1, 2}, {3, 3}, {of_arcs.data(), 2}); });
+    count += is_refused([&] { (void)session.worst_arcs(firsts, of_arcs); });
+    count += is_refused([&] { (void)session.worst_nodes({firsts.data(), 4}, of_nodes); });
+    count += is_refused([&] { (void)session.worst_pairs(firsts, seconds, of_arcs); });
     std::vector<std::uint8_t> marks(4, 9);
     count += is_refused([&] { session.maximum_flow(of_arcs, marks); });
     const bool unwritten = of_arcs == std::vector<std::uint64_t>(5, 9) && of_nodes == std::vector<std::uint64_t>(4, 9) &&
-                           marks == std::vector<std::uint8_t>(4, 9);
+                           marks == std::vector<std::uint8_t>(4, 9) && firsts == std::vector<std::uint32_t>(5, 9) &&
+                           seconds == std::vector<std::uint32_t>(5, 9);
     count += is_refused([&] { (void)session.problem(); });
     count += is_refused([&] { (void)session.solution(); });
     count += is_refused([&] { (void)session.check({3, 2, 1, 2, 3}); });

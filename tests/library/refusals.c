@@ -73,11 +73,11 @@ static struct seen look(const dmf_session *session)
 
 /* What calls write. */
 struct outputs {
-    uint64_t flows[MOST], capacities[MOST], of_arcs[ARCS], of_nodes[NODES], place, line, greatest;
-    uint32_t tails[MOST], heads[MOST];
+    uint64_t flows[MOST], capacities[MOST], of_arcs[ARCS], of_nodes[NODES], losses[MOST], place, line, greatest;
+    uint32_t tails[MOST], heads[MOST], firsts[MOST], seconds[MOST];
     uint8_t closed[MOST];
     dmf_session *session;
-    size_t bad_arc, length;
+    size_t bad_arc, length, found;
     uint32_t fault;
     uint8_t side[NODES], text[1000];
 };
@@ -89,11 +89,12 @@ static struct outputs odd(void)
     return outputs;
 }
 
-enum step { VALUE, MAXIMUM, SOLVE, FLOWS, RANGE, SIDE, ARC_LOSSES, NODE_LOSSES, CHECK, CAP, ADD, SOLVE_AGAIN, PROBLEM, SOLUTION, UNDO, REDO, CLOSE, SHUT, STEPS };
+enum step { VALUE, MAXIMUM, SOLVE, FLOWS, RANGE, SIDE, ARC_LOSSES, NODE_LOSSES, PAIR_LOSSES, WORST_ARCS, WORST_NODES, WORST_PAIRS, CHECK, CAP, ADD, SOLVE_AGAIN, PROBLEM, SOLUTION, UNDO, REDO, CLOSE, SHUT, STEPS };
 
 static enum dmf_status call(dmf_session *session, enum step step, struct outputs *to)
 {
     static const uint64_t flows[ARCS] = {3, 2, 1, 2, 3};
+    static const uint32_t firsts[] = {4, 2, 3}, seconds[] = {5, 4, 3};
     switch (step) {
     case VALUE: return dmf_session_maximum_flow(session, &to->greatest, NULL, 0, NULL, 0);
     case MAXIMUM: return dmf_session_maximum_flow(session, &to->greatest, to->flows, ARCS, to->side, NODES);
@@ -104,6 +105,10 @@ static enum dmf_status call(dmf_session *session, enum step step, struct outputs
     case SIDE: return dmf_session_side(session, to->side, NODES);
     case ARC_LOSSES: return dmf_session_arc_losses(session, to->of_arcs, ARCS);
     case NODE_LOSSES: return dmf_session_node_losses(session, to->of_nodes, NODES);
+    case PAIR_LOSSES: return dmf_session_pair_losses(session, firsts, 3, seconds, 3, to->losses, 3);
+    case WORST_ARCS: return dmf_session_worst_arcs(session, to->firsts, 2, to->losses, 2, &to->found);
+    case WORST_NODES: return dmf_session_worst_nodes(session, to->firsts, MOST, to->losses, MOST, &to->found);
+    case WORST_PAIRS: return dmf_session_worst_pairs(session, to->firsts, 3, to->seconds, 3, to->losses, 3, &to->found);
     case CHECK: return dmf_session_check(session, flows, ARCS, &to->place);
     case CAP: return dmf_session_cap(session, 5, 1);
     case ADD: return dmf_session_add(session, 1, 4, 7);
@@ -125,11 +130,26 @@ static struct outputs left_by_refused(enum step step)
     return outputs;
 }
 
+/* The arrays begin with these losses, each of the arcs or the node with the number beside it; the next element is as it was. */
+static int are_losses(const struct outputs *to, size_t count, const uint32_t *firsts, const uint32_t *seconds, const uint64_t *losses)
+{
+    struct outputs want = odd();
+    want.found = to->found;
+    memcpy(want.losses, losses, count * sizeof *losses);
+    if (firsts != NULL)
+        memcpy(want.firsts, firsts, count * sizeof *firsts);
+    if (seconds != NULL)
+        memcpy(want.seconds, seconds, count * sizeof *seconds);
+    return memcmp(to, &want, sizeof want) == 0 && to->found == (firsts != NULL ? count : odd().found);
+}
+
 /* What is written of a step that is not refused stands there: so the odd numbers would be seen. */
 static int is_written(enum step step, const struct outputs *to)
 {
     static const char begin[] = "p max 4 6\n", value[] = "s 10\n";
     static const uint64_t of_arcs[ARCS] = {3, 2, 1, 2, 3}, of_nodes[NODES] = {0, 3, 3, 0};
+    static const uint64_t threes[] = {3, 3}, of_pairs[] = {5, 2, 1}, fives[] = {5, 5, 5};
+    static const uint32_t worst_arcs[] = {1, 5}, worst_nodes[] = {2, 3}, firsts[] = {1, 1, 4}, seconds[] = {2, 5, 5};
     switch (step) {
     case VALUE: return to->greatest == 5;
     case MAXIMUM: return to->greatest == 5 && memcmp(to->flows, of_arcs, sizeof of_arcs) == 0 && to->side[0] == 1 && to->side[NODES - 1] == 0;
@@ -138,6 +158,10 @@ static int is_written(enum step step, const struct outputs *to)
     case SIDE: return to->side[0] == 1 && to->side[NODES - 1] == 0;
     case ARC_LOSSES: return memcmp(to->of_arcs, of_arcs, sizeof of_arcs) == 0;
     case NODE_LOSSES: return memcmp(to->of_nodes, of_nodes, sizeof of_nodes) == 0;
+    case PAIR_LOSSES: return are_losses(to, 3, NULL, NULL, of_pairs);
+    case WORST_ARCS: return are_losses(to, 2, worst_arcs, NULL, threes);
+    case WORST_NODES: return are_losses(to, 2, worst_nodes, NULL, threes);
+    case WORST_PAIRS: return are_losses(to, 3, firsts, seconds, fives);
     case CHECK: return to->place == 0;
     case PROBLEM: return to->length > sizeof begin && memcmp(to->text, begin, sizeof begin - 1) == 0;
     case SOLUTION: return to->length > sizeof value && memcmp(to->text, value, sizeof value - 1) == 0;

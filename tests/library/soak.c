@@ -92,7 +92,8 @@ static void take_round(dmf_session *session)
 {
     uint8_t text[16384];
     uint64_t flows[2 * ARCS], losses[2 * ARCS], place, greatest;
-    size_t length;
+    uint32_t firsts[10], seconds[10];
+    size_t length, found;
     struct seen before, after;
     uint32_t past;
     step_on(session);
@@ -112,6 +113,11 @@ static void take_round(dmf_session *session)
     want(dmf_session_arc_losses(session, losses, dmf_session_arcs(session)) == DMF_OK &&
              dmf_session_node_losses(session, losses, NODES) == DMF_OK,
          "losses were refused");
+    want(dmf_session_worst_nodes(session, firsts, 10, losses, 10, &found) == DMF_OK && found == 10 &&
+             dmf_session_worst_arcs(session, firsts, 10, losses, 10, &found) == DMF_OK && found == 10 &&
+             dmf_session_worst_pairs(session, firsts, 10, seconds, 10, losses, 10, &found) == DMF_OK && found == 10 &&
+             dmf_session_pair_losses(session, firsts, 10, seconds, 10, flows, 10) == DMF_OK && memcmp(flows, losses, sizeof *flows * 10) == 0,
+         "the worst losses were refused, or are others");
     want(dmf_session_maximum_flow(session, &greatest, flows, dmf_session_arcs(session), text, NODES) == DMF_OK &&
              greatest == dmf_session_value(session) && dmf_session_check(session, flows, dmf_session_arcs(session), &place) == DMF_OK,
          "the other flow is not greatest");

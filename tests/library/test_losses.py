@@ -4,18 +4,14 @@ itself, and for each answer what is written."""
 
 from __future__ import annotations
 
-from collections.abc import Collection
-from contextlib import suppress
 from ctypes import c_uint64
-from dataclasses import replace
 from random import Random
 
 import pytest
 import random_cases
-from c_library import BAD_LENGTH, CSession, Library, Refused, library_folder
-from oracle.network import Arc, State, solved
+from c_library import BAD_LENGTH, NOT_GREATEST, CSession, Library, Refused, library_folder
+from c_losses import arcs_at, changed, left, present
 
-NOT_GREATEST = 9
 CALLS = "arc_losses", "node_losses"
 NODES, ARCS = 4, 5
 FEW, MANY, BATCHES = 200, 20_000, 4
@@ -108,19 +104,6 @@ def test_a_flow_that_is_not_greatest(library: Library, call: str, right: int) ->
             assert refused.value.status == NOT_GREATEST and session.state() == before
 
 
-def left(wanted: State, out: Collection[int]) -> int:
-    """The greatest value if these arcs carry nothing, by the second implementation."""
-    arcs = tuple(
-        arc._replace(cap=0) if number in out else arc for number, arc in enumerate(wanted.arcs, 1)
-    )
-    return solved(replace(wanted, arcs=arcs, flows=(0,) * len(arcs))).value()
-
-
-def arcs_at(wanted: State, node: int) -> set[int]:
-    """The numbers of the arcs that leave or enter a node."""
-    return {number for number, arc in enumerate(wanted.arcs, 1) if node in (arc.tail, arc.head)}
-
-
 def by_steps(session: CSession, word: str, count: int) -> list[int]:
     """How much less the session's value is after each of these steps and a solve."""
     value, found = session.number("value"), []
@@ -135,32 +118,6 @@ def by_steps(session: CSession, word: str, count: int) -> list[int]:
         found.append(value - session.number("value"))
         session.step("undo", 2)
     return found
-
-
-def changed(session: CSession, random: Random, wanted: State) -> None:
-    """Make some changes, and solve."""
-    for _ in range(random.randrange(5)):
-        arc, node = random.randint(1, len(wanted.arcs) or 1), random.randint(1, wanted.nodes)
-        steps: list[tuple[str, list[int]]] = [
-            ("close", [arc]),
-            ("shut", [node]),
-            ("cap", [arc, random.randrange(9)]),
-            ("add", [node, random.randint(1, wanted.nodes), random.randrange(9)]),
-            ("solve", []),
-            ("undo", [1]),
-        ]
-        word, numbers = random.choice(steps)
-        with suppress(Refused):
-            session.step(word, *numbers)
-    session.step("solve")
-
-
-def present(session: CSession, wanted: State) -> State:
-    """The present network, read arc by arc."""
-    count = session.number("arcs")
-    tails, heads, capacities, flows, closed = session.arc_range(1, count, [count] * 5)
-    arcs = tuple(map(Arc, tails, heads, capacities, [mark == 1 for mark in closed]))
-    return replace(wanted, arcs=arcs, flows=flows)
 
 
 @pytest.mark.seconds(3)
