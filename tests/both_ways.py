@@ -28,6 +28,7 @@ BOTH = {
     "test_tried",
     "test_unbounded_arcs",
     "test_vital_arcs",
+    "test_vital_pairs",
 }
 
 

@@ -32,6 +32,11 @@ PIPES = [
     ("mill", "sea", 2),
     ("town", "sea", 3),
 ]
+# Two arcs of the pipes, and what is lost of 5 without both, worked by hand; the worst first.
+PIPE_PAIRS = [
+    *((1, 2, 5), (1, 5, 5), (4, 5, 5), (1, 3, 3), (1, 4, 3)),
+    *((2, 3, 3), (2, 5, 3), (3, 4, 3), (3, 5, 3), (2, 4, 2)),
+]
 
 
 def pipes(**options: Any) -> dmf.Network[str]:
@@ -43,6 +48,10 @@ def process_of(network: dmf.Network[Any]) -> subprocess.Popen[bytes]:
     session = network._session
     assert isinstance(session, ProgramSession)
     return session.process
+
+
+def rows_by_number(found: dmf.VitalPairs[Any]) -> list[tuple[int, int, Any]]:
+    return [(first.number, second.number, loss) for (first, second), _, loss in found]
 
 
 def ends(arcs: Iterable[dmf.Arc[Any]]) -> list[tuple[Any, Any]]:

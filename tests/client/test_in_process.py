@@ -24,6 +24,7 @@ from client_shared import BUILT, PIPES, dmf, environment, interrupted_soon, pipe
 from dmf.session import library as loaded
 from dmf.session import worker_threads
 from dmf.session.base import Part
+from dmf.session.statuses import NO_MEMORY
 from tool_runs import wait_until_asleep
 
 SECONDS = 60
@@ -345,7 +346,7 @@ def test_one_call_needs_no_program(monkeypatch: pytest.MonkeyPatch, bound: int) 
 
 def test_one_call_without_memory(monkeypatch: pytest.MonkeyPatch, bound: int) -> None:
     with counted(monkeypatch) as freed, monkeypatch.context() as patched:
-        patched.setattr(loaded.load(library_file()), "maximum_flow", lambda *_: loaded.NO_MEMORY)
+        patched.setattr(loaded.load(library_file()), "maximum_flow", lambda *_: NO_MEMORY)
         with pytest.raises(dmf.NoMemory, match="^no memory$"):
             dmf.value(PIPES, "lake", "sea")
         wait_until_freed(freed)
@@ -358,9 +359,7 @@ def short(monkeypatch: pytest.MonkeyPatch, word: str, arc: int) -> None:
     call = commands[word]
 
     def refusing(address: int, *numbers: int) -> int:
-        return (
-            loaded.NO_MEMORY if not numbers or numbers[0] == arc else int(call(address, *numbers))
-        )
+        return NO_MEMORY if not numbers or numbers[0] == arc else int(call(address, *numbers))
 
     monkeypatch.setitem(commands, word, refusing)
 
@@ -376,7 +375,7 @@ def test_want_of_memory(monkeypatch: pytest.MonkeyPatch, bound: int) -> None:
                 network.close(("lake", "town"))
             # Without memory for the losses, each case is tried.
             losses: Any = loaded.load(library_file()).losses
-            patched.setitem(losses, Part.ARC, lambda *_: loaded.NO_MEMORY)
+            patched.setitem(losses, Part.ARC, lambda *_: NO_MEMORY)
             # Each pipe closed in turn, worked by hand.
             told = [
                 it.value if it.refusal is None else type(it.refusal)
@@ -396,7 +395,7 @@ def test_want_of_memory(monkeypatch: pytest.MonkeyPatch, bound: int) -> None:
                 network.begin_again()
         assert network.begin_again() == 3
         with monkeypatch.context() as patched:
-            patched.setattr(loaded.load(library_file()), "new", lambda *_: loaded.NO_MEMORY)
+            patched.setattr(loaded.load(library_file()), "new", lambda *_: NO_MEMORY)
             with pytest.raises(dmf.NoMemory, match="^no memory$"):
                 pipes()
 

@@ -1,5 +1,6 @@
-"""What is left of the greatest value without each arc or node, by the C library in this process:
-when it is asked, beside the program, and how a call ends that is broken off or refused."""
+"""What is left of the greatest value without each arc, node or pair, by the C library in this
+process: when it is asked, beside the program, and how a call ends that is broken off or refused.
+"""
 
 from __future__ import annotations
 
@@ -9,10 +10,11 @@ from typing import Any
 
 import pytest
 from c_library import library_file
-from client_shared import BUILT, dmf, interrupted_soon, pipes
+from client_shared import BUILT, PIPE_PAIRS, dmf, interrupted_soon, pipes, rows_by_number
 from dmf.session import library as loaded
-from dmf.session.base import Part
+from dmf.session.base import Part, Ranked
 from dmf.session.fresh import values_without
+from dmf.session.statuses import NO_MEMORY
 
 SECONDS = 60
 # The values without each of the pipes, worked by hand.
@@ -24,7 +26,8 @@ pytestmark = pytest.mark.usefixtures("by_library")
 def bound(request: pytest.FixtureRequest, monkeypatch: pytest.MonkeyPatch) -> int:
     """The most arcs of a network whose losses are not found beside."""
     most = int(request.param)
-    monkeypatch.setattr(loaded, "MOST_LOST_AT_ONCE", most)
+    for name in "MOST_LOST_AT_ONCE", "MOST_PAIRED_AT_ONCE":
+        monkeypatch.setattr(loaded, name, most)
     return most
 
 
@@ -100,9 +103,68 @@ def test_want_of_memory(monkeypatch: pytest.MonkeyPatch, bound: int) -> None:
         with monkeypatch.context() as patched:
             library: Any = loaded.load(library_file())
             for part in Part:
-                patched.setitem(library.losses, part, lambda *_: loaded.NO_MEMORY)
+                patched.setitem(library.losses, part, lambda *_: NO_MEMORY)
             for ask in network.vital, network.vital_nodes:
                 with pytest.raises(dmf.NoMemory, match="^no memory$"):
                     ask()
         assert list(network.vital().values) == LEFT and network.value == 5
         assert list(network.vital_nodes().losses) == [3, 3]
+
+
+ASKED = {
+    Ranked.ARCS: lambda network: network.vital(top=2),
+    Ranked.NODES: lambda network: network.vital_nodes(top=2),
+    Ranked.PAIRS: lambda network: network.vital_pairs(top=2),
+}
+
+
+def test_no_program_is_needed_to_rank(monkeypatch: pytest.MonkeyPatch, bound: int) -> None:
+    """Only where the flow is not greatest."""
+    monkeypatch.setenv("DMF", "/nowhere")
+    with pipes() as network:
+        for ask in ASKED.values():
+            with pytest.raises(dmf.NoProgram):
+                ask(network)
+        network.solve()
+        assert list(network.vital(top=2).losses) == [3, 3]
+        assert list(network.vital_nodes(top=2).losses) == [3, 3]
+        assert rows_by_number(network.vital_pairs(top=2)) == PIPE_PAIRS[:2]
+        # The library ranks as many as there are, and the program 10,000.
+        assert rows_by_number(network.vital_pairs(top=10**12)) == PIPE_PAIRS
+        network.add("lake", "sea", 1)
+        with pytest.raises(dmf.NumberTooLarge, match="10001 pairs: the program ranks 10,000 at"):
+            network.vital_pairs(top=10_001)
+
+
+def test_want_of_memory_to_rank(monkeypatch: pytest.MonkeyPatch, bound: int) -> None:
+    with pipes() as network:
+        network.solve()
+        library: Any = loaded.load(library_file())
+        for ranked, ask in ASKED.items():
+            with monkeypatch.context() as patched:
+                patched.setitem(library.worst, ranked, lambda *_: NO_MEMORY)
+                with pytest.raises(dmf.NoMemory, match="^no memory$"):
+                    ask(network)
+            assert len(ask(network)) == 2
+
+
+def test_ranking_broken_off(monkeypatch: pytest.MonkeyPatch) -> None:
+    """Ctrl-C leaves the call alone, and the network as it was; the next call begins a session."""
+    monkeypatch.setattr(loaded, "MOST_PAIRED_AT_ONCE", 0)
+    library: Any = loaded.load(library_file())
+    worst, begun, until = library.worst[Ranked.PAIRS], threading.Event(), threading.Event()
+
+    def slow(*words: int) -> int:
+        if not begun.is_set():
+            begun.set()
+            until.wait(SECONDS)
+        return int(worst(*words))
+
+    monkeypatch.setitem(library.worst, Ranked.PAIRS, slow)
+    with pipes() as network:
+        plan = network.solve()
+        with pytest.raises(KeyboardInterrupt), interrupted_soon(0.3):
+            network.vital_pairs()
+        assert begun.is_set() and (network.value, network.flow() == plan) == (5, True)
+        assert rows_by_number(network.vital_pairs()) == PIPE_PAIRS
+        until.set()

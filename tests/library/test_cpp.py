@@ -15,7 +15,7 @@ from types import MappingProxyType
 import networkx
 import pytest
 from c_library import HEADER, ROOT, compiled, header_calls, library_folder
-from dmf.session.library import FAULTS, REASONS
+from dmf.session.statuses import FAULTS, REASONS
 
 EXAMPLE = ROOT / "examples/cpp"
 HEADER_CPP = HEADER.with_suffix(".hpp")

@@ -8,7 +8,7 @@ from pathlib import Path
 
 import pytest
 from c_library import HEADER, Library, Refused, library_folder
-from dmf.session.library import FAULTS, REASONS
+from dmf.session.statuses import FAULTS, REASONS
 
 BEGIN = "p max 4 2\nn 1 s\nn 4 t\n"
 LARGEST = 2**64 - 1

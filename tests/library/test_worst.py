@@ -4,6 +4,7 @@ in the session itself, and for each answer what is written."""
 
 from __future__ import annotations
 
+from collections.abc import Mapping
 from itertools import combinations
 from random import Random
 
@@ -21,7 +22,8 @@ from c_library import (
 from c_losses import arcs_at, changed, left, present
 from oracle.network import State
 
-Rows = list[tuple[int, ...]]
+Numbers = tuple[int, ...]
+Rows = list[Numbers]
 NODES, ARCS = 4, 5
 FEW, MANY, BATCHES = 120, 12_000, 4
 # Of the example: the numbers, and what is lost of the 5 that arrive. Without arcs 1 and 2 nothing
@@ -163,18 +165,22 @@ def closed_in_session(session: CSession, pairs: list[tuple[int, int]]) -> list[i
     return found
 
 
-def listed(losses_of: dict[tuple[int, ...], int], most: int) -> Rows:
+def listed(losses_of: Mapping[Numbers, int], most: int) -> Rows:
     """The worst of these losses: the greatest first, and equal ones by their numbers."""
     rows = sorted(losses_of.items(), key=lambda item: (-item[1], item[0]))
     return [(*numbers, loss) for numbers, loss in rows[:most]]
 
 
-def judge_lists(session: CSession, now: State, pairs: dict[tuple[int, ...], int], most: int) -> int:
+def judge_lists(session: CSession, now: State, pairs: Mapping[Numbers, int], most: int) -> int:
     """Compare each list with all losses; return how many losses it has that are not 0."""
     value = session.number("value")
     inner = sorted({*range(1, now.nodes + 1)} - {now.source, now.sink})
-    of_arcs = {(arc,): value - left(now, {arc}) for arc in range(1, len(now.arcs) + 1)}
-    of_nodes = {(node,): value - left(now, arcs_at(now, node)) for node in inner}
+    of_arcs: dict[Numbers, int] = {
+        (arc,): value - left(now, {arc}) for arc in range(1, len(now.arcs) + 1)
+    }
+    of_nodes: dict[Numbers, int] = {
+        (node,): value - left(now, arcs_at(now, node)) for node in inner
+    }
     assert worst(session, "arcs", most) == listed(of_arcs, most)
     assert worst(session, "nodes", most) == listed(of_nodes, most)
     found = worst(session, "pairs", most)
@@ -199,6 +205,7 @@ def test_random_sessions(library: Library, batch: int, request: pytest.FixtureRe
             numbers = range(1, len(now.arcs) + 1)
             pairs = list(combinations(numbers, 2))
             of_pairs = closed_in_session(session, pairs)
+            losses_of: dict[Numbers, int] = dict(zip(pairs, of_pairs))
             value = session.number("value")
             for at in random.sample(range(len(pairs)), min(len(pairs), 8)):
                 assert of_pairs[at] == value - left(now, pairs[at])
@@ -206,5 +213,5 @@ def test_random_sessions(library: Library, batch: int, request: pytest.FixtureRe
             chosen = [(random.choice(numbers), random.choice(numbers)) for _ in pairs[:9]]
             assert list(losses(session, chosen)) == closed_in_session(session, chosen)
             most = random.choice([0, 1, 2, 3, 5, 8, 13, 1_000])
-            some_lost += judge_lists(session, now, dict(zip(pairs, of_pairs)), most) > 0
+            some_lost += judge_lists(session, now, losses_of, most) > 0
     assert some_lost > count // 4

@@ -11,7 +11,8 @@ help(dmf.Solution)        a flow: by arcs, as an array, a frame, a matrix, a dic
 help(dmf.Cut)             the limit: its capacity, its arcs, its two sides
 help(dmf.maximum_flow)    of a graph of networkx or igraph, or a matrix of scipy, in one call;
                           also minimum_cut, value alone, and vital: what is
-                          lost without each arc; Network.vital_nodes: or node
+                          lost without each arc; Network.vital_nodes: or node;
+                          Network.vital_pairs: or two arcs
 help(dmf.read)            a network of a file; also from_networkx, from_igraph, from_scipy, and
                           Network.from_arrays, Network.from_frame
 help(dmf.open_project)    a project of dmf-plan: its scenarios, compared; its steps
@@ -94,6 +95,7 @@ if TYPE_CHECKING:
     from .graphs import vital as vital
     from .losses import VitalArcs as VitalArcs
     from .losses import VitalNodes as VitalNodes
+    from .losses import VitalPairs as VitalPairs
     from .network import Network as Network
     from .network import Row as Row
     from .network import ScaledNetwork as ScaledNetwork
@@ -122,7 +124,7 @@ _NAMES = {
     "graph_flows": ["EdgeFlow", "MatrixFlow"],
     "graph_networks": ["from_igraph", "from_networkx", "from_scipy"],
     "graphs": ["maximum_flow", "minimum_cut", "value", "vital"],
-    "losses": ["VitalArcs", "VitalNodes"],
+    "losses": ["VitalArcs", "VitalNodes", "VitalPairs"],
     "network": ["Network", "Row", "ScaledNetwork"],
     "scaled_solution": ["ScaledSolution"],
     "session.executable": ["program"],

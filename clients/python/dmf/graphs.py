@@ -15,7 +15,6 @@ from .graph_rows import GivenNetwork, given_network, is_igraph, is_networkx
 from .rows import Whole
 from .session.base import (
     PROGRAM,
-    Part,
     ProblemColumns,
     Program,
     Runner,
@@ -25,7 +24,7 @@ from .session.base import (
     problem_pieces,
     where,
 )
-from .session.fresh import CUT, FLOW, VALUE, solved, values_without
+from .session.fresh import CUT, FLOW, VALUE, solved, values_without, worst_without
 from .session.runners import chosen, program_of
 from .text.lexical import AMOUNTS, LARGEST
 from .unbounded_arcs import BoundlessFlow, flows_of, solve_unbounded
@@ -349,19 +348,19 @@ def vital(
     >>> found.value, list(found.values), list(found.losses)
     (3, [1, 2, 1], [2, 1, 2])
     """
-    from .losses import VitalArcs
+    from .losses import Finder, VitalArcs
 
     reader = CapacityReader(infinite, scale)
     given = given_network(graph, source, sink, capacity, reader)
     state = given.state
     problem = _bounded(given, program) if given.unbounded else state.problem()
     try:
-        return VitalArcs.of(
-            state.every_arc(),
-            lambda: values_without(problem, Part.ARC, program_of(program)),
-            reader.measure,
-            top,
+        finder = Finder(
+            problem.nodes,
+            lambda part: values_without(problem, part, program_of(program)),
+            lambda ranked, most: worst_without(problem, ranked, most, program_of(program)),
         )
+        return VitalArcs.of(state.every_arc(), finder, reader.measure, top)
     except Refused as refused:
         raise where(refused, state.handle) from None
 

@@ -1,29 +1,42 @@
-"""What is left of a network's greatest value without each of its arcs, or each of its nodes."""
+"""What is left of a network's greatest value without each of its arcs, each of its nodes, or each
+pair of its arcs."""
 
 from __future__ import annotations
 
 from array import array
 from collections.abc import Callable, Iterator, Mapping, Sequence
 from dataclasses import dataclass
+from functools import partial
 from heapq import nsmallest
 from typing import TYPE_CHECKING, Any, Generic, NamedTuple, TypeVar
 
 from .arcs import Arc, OpenArcs
 from .columns import Node
 from .rows import whole
-from .session.base import ValuesWithout
+from .session.base import Part, Ranked, ValuesWithout, WorstWithout
 from .text.lexical import AMOUNTS
 
 if TYPE_CHECKING:
     from .quantity import Measure
 
-# An arc or a node.
+# An arc, a node or a pair of arcs.
 Thing = TypeVar("Thing")
+# The most arcs or nodes that a session or the program ranks; for more, all values are sorted.
+MOST_RANKED = 1_000
+
+
+class Finder(NamedTuple):
+    """How many nodes a network has, and what finds its greatest values: without each arc or node;
+    and without each of so many arcs, nodes or pairs, the worst first."""
+
+    node_count: int
+    values_without: Callable[[Part], ValuesWithout]
+    worst_without: Callable[[Ranked, int], WorstWithout]
 
 
 class Losses(Generic[Thing]):
-    """What is left without each arc or node, in rows: the arc or node, the greatest value without
-    it, and the loss."""
+    """What is left without each arc, node or pair, in rows: the arc, node or pair, the greatest
+    value without it, and the loss."""
 
     __module__ = __package__
 
@@ -38,7 +51,7 @@ class Losses(Generic[Thing]):
         raise NotImplementedError
 
     def _cells(self, thing: Thing) -> tuple[object, ...]:
-        """Return the cells that name an arc or a node."""
+        """Return the cells that name an arc, a node or a pair."""
         raise NotImplementedError
 
     def __iter__(self) -> Iterator[tuple[Thing, Any, Any]]:
@@ -84,22 +97,22 @@ class VitalArcs(Losses[Arc[Node]], Generic[Node]):
 
     @classmethod
     def of(
-        cls,
-        arcs: OpenArcs[Node],
-        find: Callable[[], ValuesWithout],
-        measure: Measure | None,
-        top: int | None,
+        cls, arcs: OpenArcs[Node], finder: Finder, measure: Measure | None, top: int | None
     ) -> VitalArcs[Node]:
-        """Return what `find` finds about these arcs: about the `top` of them whose loss costs most,
-        if that is given."""
-        return cls(*_columns_of(_Question(cls._word, arcs, arcs.chosen, find), measure, top))
+        """Return what is found about these arcs: about the `top` of them whose loss costs most, if
+        that is given."""
+        most, unseen = _most(top, cls._word), len(arcs.closed)
+        if most is not None and most + unseen <= MOST_RANKED:
+            found = finder.worst_without(Ranked.ARCS, most + unseen)
+            return cls(*_shown(measure, found.value, *_seen(found, partial(_arc, arcs), most)))
+        value, without = finder.values_without(Part.ARC)
+        return cls(*_shown(measure, value, *_sorted(arcs, arcs.chosen(without), most)))
 
     def _things(self) -> Sequence[Arc[Node]]:
         return self.arcs
 
     def _cells(self, thing: Arc[Node]) -> tuple[object, ...]:
-        label = thing.number if thing.given_key is None else thing.given_key
-        return label, thing.tail, thing.head
+        return _cells_of(thing)
 
 
 @dataclass(frozen=True, repr=False)
@@ -129,19 +142,21 @@ class VitalNodes(Losses[Node], Generic[Node]):
 
     @classmethod
     def of(
-        cls,
-        nodes: Mapping[Node, int],
-        find: Callable[[], ValuesWithout],
-        measure: Measure | None,
-        top: int | None,
+        cls, nodes: Mapping[Node, int], finder: Finder, measure: Measure | None, top: int | None
     ) -> VitalNodes[Node]:
-        """Return what `find` finds about these nodes, given with their numbers: about the `top` of
-        them whose loss costs most, if that is given."""
-
-        def choose(without: array[int]) -> array[int]:
-            return array(AMOUNTS, (without[number - 1] for number in nodes.values()))
-
-        return cls(*_columns_of(_Question(cls._word, [*nodes], choose, find), measure, top))
+        """Return what is found about these nodes, given with their numbers: about the `top` of them
+        whose loss costs most, if that is given."""
+        most, by_number = _most(top, cls._word), {number: node for node, number in nodes.items()}
+        unseen = finder.node_count - 2 - len(nodes)
+        # Of equal losses that with the smaller number is ranked first, which has to be the first
+        # node too.
+        in_order = [*by_number] == sorted(by_number)
+        if most is not None and most + unseen <= MOST_RANKED and in_order:
+            found = finder.worst_without(Ranked.NODES, most + unseen)
+            return cls(*_shown(measure, found.value, *_seen(found, by_number.get, most)))
+        value, without = finder.values_without(Part.NODE)
+        left = array(AMOUNTS, (without[number - 1] for number in by_number))
+        return cls(*_shown(measure, value, *_sorted([*nodes], left, most)))
 
     def _things(self) -> Sequence[Node]:
         return self.nodes
@@ -150,31 +165,106 @@ class VitalNodes(Losses[Node], Generic[Node]):
         return (thing,)
 
 
-class _Question(NamedTuple):
-    """What is asked: about which things, in this word, how their values are chosen from those of
-    all numbers, and the function that finds these."""
+@dataclass(frozen=True, repr=False)
+class VitalPairs(Losses[tuple[Arc[Node], Arc[Node]]], Generic[Node]):
+    """The greatest value of a network, and what is left of it without the two arcs of each pair. It
+    yields a row for each pair, the greatest loss first: the pair, the greatest value without it,
+    and the loss.
 
-    word: str
-    things: Sequence[Any]
-    choose: Callable[[array[int]], array[int]]
-    find: Callable[[], ValuesWithout]
+    Attributes
+    ----------
+    value
+        The greatest value.
+    pairs
+        The pairs of arcs, closed ones too. The first arc of a pair has the smaller number.
+    values
+        The greatest value without each of them: the value if only these two arcs are closed.
+    losses
+        The value minus each of these.
+    """
+
+    __module__ = __package__
+    _word = "pairs"
+    _titles = "first arc", "tail", "head", "second arc", "tail", "head"
+
+    value: Any
+    pairs: Sequence[tuple[Arc[Node], Arc[Node]]]
+    values: Sequence[Any]
+    losses: Sequence[Any]
+
+    @classmethod
+    def of(
+        cls, arcs: OpenArcs[Node], finder: Finder, measure: Measure | None, top: int
+    ) -> VitalPairs[Node]:
+        """Return what is found about pairs of these arcs: about the `top` of them whose loss costs
+        most."""
+        most = whole(top, "vital_pairs", "a number of pairs")
+
+        def pair(first: int, second: int) -> tuple[Arc[Node], Arc[Node]] | None:
+            one, other = _arc(arcs, first), _arc(arcs, second)
+            return None if one is None or other is None else (one, other)
+
+        asked = most
+        while True:
+            found = finder.worst_without(Ranked.PAIRS, asked)
+            pairs, left = _seen(found, pair, most)
+            if len(pairs) == most or len(found.without) < asked:
+                return cls(*_shown(measure, found.value, pairs, left))
+            # Too many are pairs with an arc that callers do not see.
+            asked *= 4
+
+    def _things(self) -> Sequence[tuple[Arc[Node], Arc[Node]]]:
+        return self.pairs
+
+    def _cells(self, thing: tuple[Arc[Node], Arc[Node]]) -> tuple[object, ...]:
+        return *_cells_of(thing[0]), *_cells_of(thing[1])
 
 
-def _columns_of(
-    asked: _Question, measure: Measure | None, top: int | None
+def _most(top: int | None, word: str) -> int | None:
+    return None if top is None else whole(top, "vital", f"a number of {word}")
+
+
+def _arc(arcs: OpenArcs[Node], number: int) -> Arc[Node] | None:
+    """Return the arc with this number, or None if it is not one of these."""
+    return arcs.handle(number) if arcs.is_open(number) else None
+
+
+def _cells_of(arc: Arc[Any]) -> tuple[object, ...]:
+    return arc.number if arc.given_key is None else arc.given_key, arc.tail, arc.head
+
+
+def _seen(
+    found: WorstWithout, thing_of: Callable[..., Any], most: int
+) -> tuple[Sequence[Any], array[int]]:
+    """Return the first `most` things of a list, and the values without them. Numbers whose thing is
+    None are those of arcs and nodes that callers do not see."""
+    things: list[Any] = []
+    values = array(AMOUNTS)
+    for *numbers, left in zip(*found.numbers, found.without):
+        thing = thing_of(*numbers)
+        if thing is not None and len(things) < most:
+            things.append(thing)
+            values.append(left)
+    return things, values
+
+
+def _sorted(
+    things: Sequence[Any], values: array[int], most: int | None
+) -> tuple[Sequence[Any], array[int]]:
+    """Return the `most` things without which the least is left, with their values, or all in their
+    order."""
+    if most is None:
+        return things, values
+    places = nsmallest(most, range(len(things)), key=lambda at: (values[at], at))
+    return [things[at] for at in places], array(AMOUNTS, [values[at] for at in places])
+
+
+def _shown(
+    measure: Measure | None, value: int, things: Sequence[Any], values: array[int]
 ) -> tuple[Any, Sequence[Any], Sequence[Any], Sequence[Any]]:
     """Return the value, the things, the value without each, and the loss of each, in the caller's
-    numbers: all of them, or the `top` whose loss costs most."""
-    most = None if top is None else whole(top, "vital", f"a number of {asked.word}")
-    value, without = asked.find()
-    values, things = asked.choose(without), asked.things
+    numbers."""
     losses = array(AMOUNTS, (value - left for left in values))
-    if most is not None:
-        places = nsmallest(most, range(len(things)), key=lambda at: (-losses[at], at))
-        things = [things[at] for at in places]
-        values, losses = (
-            array(AMOUNTS, [column[at] for at in places]) for column in (values, losses)
-        )
     if measure is None:
         return value, things, values, losses
     quantity = measure.quantity

@@ -1,19 +1,19 @@
-"""What is lost of a network's greatest value without each arc and each node."""
+"""What is lost of a network's greatest value without each arc, each node, and each two arcs."""
 
 from __future__ import annotations
 
-from functools import partial
 from typing import TYPE_CHECKING
 
 from .arcs import OpenArcs
 from .columns import Node
+from .errors import NumberTooLarge
 from .network_changes import ChangeableNetwork
-from .session.base import Part, ValuesWithout
+from .session.base import Part, Ranked, ValuesWithout, WorstWithout
 from .session.runners import program_of
 from .session_holder import exclusive
 
 if TYPE_CHECKING:
-    from .losses import VitalArcs, VitalNodes
+    from .losses import Finder, VitalArcs, VitalNodes, VitalPairs
 
 
 class VitalNetwork(ChangeableNetwork[Node]):
@@ -59,8 +59,7 @@ class VitalNetwork(ChangeableNetwork[Node]):
         from .losses import VitalArcs
 
         self._ready()
-        find = partial(self._values_without, Part.ARC)
-        return VitalArcs.of(self._every_arc(), find, self._measure, top)
+        return VitalArcs.of(self._every_arc(), self._finder(), self._measure, top)
 
     def vital_nodes(self, top: int | None = None) -> VitalNodes[Node]:
         """Find for each node except the source and the sink the greatest value without it.
@@ -96,8 +95,47 @@ class VitalNetwork(ChangeableNetwork[Node]):
         from .losses import VitalNodes
 
         self._ready()
-        find = partial(self._values_without, Part.NODE)
-        return VitalNodes.of(self._inner_nodes(), find, self._measure, top)
+        return VitalNodes.of(self._inner_nodes(), self._finder(), self._measure, top)
+
+    def vital_pairs(self, top: int = 20) -> VitalPairs[Node]:
+        """Find the pairs of arcs that cost most to lose together.
+
+        A loss can be more than that of either arc, and more than both together. The network is
+        read as for `vital`, and the same finds them; it takes longer, but far less time than to
+        close each pair and solve.
+
+        Parameters
+        ----------
+        top
+            How many pairs are returned: those whose loss costs most, the greatest loss first. Of
+            equal losses the pair with the first arc that comes first is before others, and then
+            that with the first second arc. At most 10,000 if a program finds them.
+
+        Returns
+        -------
+        VitalPairs
+            The greatest value, the pairs, the value without each, and the loss of each. Closed
+            arcs are in pairs too: such a pair costs what the other arc does.
+
+        Raises
+        ------
+        NumberTooLarge
+            If a program is needed, which ranks fewer pairs.
+        Error
+            What `vital` raises.
+
+        Examples
+        --------
+        >>> network = Network(
+        ...     [("lake", "mill", 3), ("mill", "sea", 2), ("lake", "sea", 1)], "lake", "sea")
+        >>> found = network.vital_pairs(top=2)
+        >>> [(first.number, second.number, loss) for (first, second), _, loss in found]
+        [(1, 3, 3), (2, 3, 3)]
+        """
+        from .losses import VitalPairs
+
+        self._ready()
+        return VitalPairs.of(self._every_arc(), self._finder(), self._measure, top)
 
     def _every_arc(self) -> OpenArcs[Node]:
         """Return all arcs that callers see, including closed ones."""
@@ -109,6 +147,11 @@ class VitalNetwork(ChangeableNetwork[Node]):
         kept = self._kept
         ends = kept.source, kept.sink
         return {node: kept.number(node) for node in self.nodes if node not in ends}
+
+    def _finder(self) -> Finder:
+        from .losses import Finder
+
+        return Finder(len(self._kept.columns.numbers), self._values_without, self._worst_without)
 
     def _values_without(self, part: Part) -> ValuesWithout:
         """Return the greatest value without each arc or node, from the session if it finds that,
@@ -124,3 +167,22 @@ class VitalNetwork(ChangeableNetwork[Node]):
     @exclusive
     def _asked_values_without(self, part: Part) -> ValuesWithout | None:
         return self._session.values_without(part)
+
+    def _worst_without(self, ranked: Ranked, most: int) -> WorstWithout:
+        """Return the greatest value without each of the worst, as `_values_without` does."""
+        found = self._asked_worst_without(ranked, most)
+        if found is not None:
+            return found
+        from .session.fresh import MOST_RANKED, worst_without
+
+        if most > MOST_RANKED:
+            raise NumberTooLarge(
+                f"{most} {ranked.value}: the program ranks {MOST_RANKED:,} at most; the library "
+                "ranks more after a solve"
+            )
+        problem = self._kept.copy().problem()
+        return worst_without(problem, ranked, most, program_of(self._session.program))
+
+    @exclusive
+    def _asked_worst_without(self, ranked: Ranked, most: int) -> WorstWithout | None:
+        return self._session.worst_without(ranked, most)

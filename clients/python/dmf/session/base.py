@@ -6,6 +6,7 @@ from __future__ import annotations
 import contextlib
 import functools
 import importlib
+import math
 import operator
 import os
 import re
@@ -67,6 +68,35 @@ class ValuesWithout(NamedTuple):
     1 first. The source and the sink are never left out, so the value stands there."""
 
     value: int
+    without: array[int]
+
+
+class Ranked(Enum):
+    """What is ranked by its loss: arcs, nodes except the source and the sink, or pairs of arcs."""
+
+    ARCS = "arcs"
+    NODES = "nodes"
+    PAIRS = "pairs"
+
+    @property
+    def column_count(self) -> int:
+        """Return how many columns their numbers have."""
+        return 2 if self is Ranked.PAIRS else 1
+
+    def count(self, nodes: int, arcs: int) -> int:
+        """Return how many of these a network with so many nodes and arcs has."""
+        if self is Ranked.NODES:
+            return nodes - 2
+        return math.comb(arcs, self.column_count)
+
+
+class WorstWithout(NamedTuple):
+    """The greatest value, and the greatest value without each of the arcs, nodes or pairs whose
+    loss is greatest, the greatest loss first; of equal losses that with the smaller numbers. Their
+    numbers are in one column, or in two for pairs, where the first is the smaller one."""
+
+    value: int
+    numbers: tuple[array[int], ...]
     without: array[int]
 
 
@@ -164,6 +194,11 @@ class Session:
     def values_without(self, part: Part) -> ValuesWithout | None:
         """Return the greatest value without each arc or node, or None if only a run of its own
         finds it: the session runs in the program, or its flow is not a maximum flow."""
+        return None
+
+    def worst_without(self, ranked: Ranked, most: int) -> WorstWithout | None:
+        """Return the greatest value without each of the `most` worst arcs, nodes or pairs, or
+        without all of them if there are fewer. Returns None as `values_without` does."""
         return None
 
     def problem(self) -> bytes:

@@ -10,15 +10,17 @@ from typing import TYPE_CHECKING
 from ..errors import SessionEnded, UnknownCommand
 from ..files import scratch
 from ..history import Command
-from ..text.lexical import AMOUNTS
+from ..text.lexical import AMOUNTS, NODES
 from .base import (
     FilePath,
     Part,
     ProblemColumns,
+    Ranked,
     Session,
     Solved,
     ValuesWithout,
     Way,
+    WorstWithout,
     command_line,
     problem_pieces,
     refused,
@@ -31,6 +33,13 @@ if TYPE_CHECKING:
 
 VALUE, CUT, FLOW = ["solve", "--brief"], ["solve", "--brief", "--cut"], ["solve", "--any"]
 VITAL = {Part.ARC: ["vital"], Part.NODE: ["vital", "--nodes"]}
+WORST = {
+    Ranked.ARCS: ["vital", "--worst"],
+    Ranked.NODES: ["vital", "--nodes", "--worst"],
+    Ranked.PAIRS: ["vital", "--pairs", "--worst"],
+}
+# The most arcs, nodes or pairs that the program ranks.
+MOST_RANKED = 10_000
 
 
 def solved(
@@ -82,6 +91,51 @@ def _numbers_of(problem: ProblemColumns, part: Part) -> list[int]:
         return [*range(1, len(problem.tails) + 1)]
     ends = problem.source, problem.sink
     return [number for number in range(1, problem.nodes + 1) if number not in ends]
+
+
+def worst_without(
+    problem: ProblemColumns, ranked: Ranked, most: int, program: FilePath
+) -> WorstWithout:
+    """Return the program's answer to `vital --worst` about a problem; `most` is at most
+    MOST_RANKED. Raises what `solved` raises."""
+    words = [*WORST[ranked], str(most)]
+    lines = _answer(problem_pieces(problem), words, program, None).splitlines()
+    arcs = len(problem.tails)
+    try:
+        (value,) = _numbers_after([b"c", b"value"], lines[0], 1)
+        rows = [_numbers_after([b"v"], line, ranked.column_count + 1) for line in lines[1:]]
+        without = array(AMOUNTS, (left for *_, left in rows))
+    except (IndexError, OverflowError, ValueError):
+        raise _not_understood(words) from None
+    is_whole = len(rows) == min(most, ranked.count(problem.nodes, arcs))
+    last = problem.nodes if ranked is Ranked.NODES else arcs
+    if not is_whole or max(without, default=0) > value or not _are_in_order(rows, last):
+        raise _not_understood(words)
+    numbers = (array(NODES, (row[at] for row in rows)) for at in range(ranked.column_count))
+    return WorstWithout(value, tuple(numbers), without)
+
+
+def _are_in_order(rows: list[list[int]], last: int) -> bool:
+    """Return True if the rows that leave least come first, and each has other numbers up to
+    `last`, ascending."""
+    order = [(left, numbers) for *numbers, left in rows]
+    known = range(1, last + 1)
+    return (
+        all(first < second for first, second in zip(order, order[1:]))
+        and len({tuple(numbers) for _, numbers in order}) == len(rows)
+        and all(numbers == sorted({*numbers}) for _, numbers in order)
+        and all(number in known for _, numbers in order for number in numbers)
+    )
+
+
+def _numbers_after(words: list[bytes], line: bytes, count: int) -> list[int]:
+    """Return the numbers of a line that begins with these words. Raises a ValueError if there is
+    another count of them."""
+    fields = line.split()
+    numbers = [*map(int, fields[len(words) :])]
+    if fields[: len(words)] != words or len(numbers) != count:
+        raise ValueError
+    return numbers
 
 
 def _answer(

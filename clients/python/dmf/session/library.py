@@ -14,19 +14,22 @@ from typing import Any
 
 from ..errors import NoProgram, Refused
 from ..history import Command
-from ..text.lexical import AMOUNTS, display
+from ..text.lexical import AMOUNTS, NODES, display
 from .base import (
     Part,
     ProblemColumns,
+    Ranked,
     Session,
     Solved,
     ValuesWithout,
+    WorstWithout,
     command_line,
     judged,
     problem_pieces,
     refused,
     refused_line,
 )
+from .statuses import BAD_LENGTH, BAD_TEXT, FAULTS, NO_MEMORY, NOT_GREATEST, OK, REASONS
 from .versions import ABI, fits, other_version
 from .worker_threads import Given, Handle, Job
 
@@ -34,43 +37,10 @@ from .worker_threads import Given, Handle, Job
 # has to wait for the call to end, which takes milliseconds. For larger ones they run in another
 # thread, which Ctrl-C does not reach, except for steps over at most MOST_STEPS states, each of
 # which looks at each arc only a few times. What is lost without each arc takes longer to find, so
-# there the other thread begins at MOST_LOST_AT_ONCE arcs.
-MOST_AT_ONCE, MOST_LOST_AT_ONCE, MOST_STEPS = 20_000, 1_000, 4
+# there the other thread begins at MOST_LOST_AT_ONCE arcs, and for pairs of arcs at
+# MOST_PAIRED_AT_ONCE.
+MOST_AT_ONCE, MOST_LOST_AT_ONCE, MOST_PAIRED_AT_ONCE, MOST_STEPS = 20_000, 1_000, 50, 4
 
-OK, NO_MEMORY, NOT_GREATEST, BAD_LENGTH, BAD_TEXT = 0, 1, 9, 10, 12
-# The reasons for a refusal in the program's words, by their numbers in dmf.h.
-REASONS = {
-    NO_MEMORY: "no memory",
-    2: "no such node",
-    3: "no such arc",
-    4: "arc is closed",
-    5: "too many arcs",
-    6: "capacities past 64 bits",
-    7: "nothing to undo",
-    8: "nothing to redo",
-    NOT_GREATEST: "flow is not greatest",
-}
-# The faults of a problem text, in the order of their numbers, from 1.
-FAULTS = (
-    "problem line expected",
-    "second problem line",
-    "unknown line",
-    "not a max problem",
-    "wrong number of fields",
-    "not a number",
-    "number too large",
-    "count out of range",
-    "no such node",
-    "neither source nor sink",
-    "terminal named twice",
-    "source and sink are the same",
-    "arc before source and sink",
-    "too many arcs",
-    "too few arcs",
-    "source or sink missing",
-    "capacities past 64 bits",
-    "no memory",
-)
 # The commands that calls of the library carry out, each with how many numbers follow its word.
 COMMANDS = {"cap": 2, "add": 3, "close": 1, "shut": 1, "solve": 0, "undo": 1, "redo": 1}
 STEPS = "undo", "redo"
@@ -104,6 +74,13 @@ class Library:
         self.losses = {
             part: self._call(f"dmf_session_{part.value}_losses", [_POINTER, _POINTER, _SIZE])
             for part in Part
+        }
+        self.worst = {
+            ranked: self._call(
+                f"dmf_session_worst_{ranked.value}",
+                [_POINTER, *[_POINTER, _SIZE] * (1 + ranked.column_count), _POINTER],
+            )
+            for ranked in Ranked
         }
         self.problem = self._call("dmf_session_problem", [_POINTER, _POINTER, _SIZE, _POINTER])
 
@@ -323,6 +300,26 @@ class LibrarySession(Session):
             raise refused_line(REASONS[status], None)
         value = self._library.value(held.address)
         return ValuesWithout(value, array(AMOUNTS, (value - loss for loss in losses)))
+
+    def worst_without(self, ranked: Ranked, most: int) -> WorstWithout | None:
+        at_once = MOST_PAIRED_AT_ONCE if ranked is Ranked.PAIRS else MOST_LOST_AT_ONCE
+        return self._do(self._worst_without, ranked, most, most_at_once=at_once)
+
+    def _worst_without(self, held: Handle, ranked: Ranked, most: int) -> WorstWithout | None:
+        address = held.address
+        most = min(most, ranked.count(self._library.nodes(address), self._library.arcs(address)))
+        numbers = [array(NODES, [0]) * most for _ in range(ranked.column_count)]
+        losses, found = array(AMOUNTS, [0]) * most, _SIZE()
+        columns = [part for column in (*numbers, losses) for part in (_place(column), most)]
+        status = self._library.worst[ranked](address, *columns, ctypes.byref(found))
+        if status == NOT_GREATEST:
+            return None
+        if status != OK:
+            raise refused_line(REASONS[status], None)
+        judged(found.value, most)
+        value = self._library.value(address)
+        without = array(AMOUNTS, (value - loss for loss in losses))
+        return WorstWithout(value, tuple(numbers), without)
 
     def problem(self) -> bytes:
         return self._do(self._problem)
