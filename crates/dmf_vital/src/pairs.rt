@@ -6,10 +6,10 @@ ghost use Rattle.dmf_vital.specs.Entering.{AreLargeWorst, AreWorstUpTo};
 ghost use Rattle.dmf_vital.specs.Loss.{IsLossOfPair};
 ghost use Rattle.dmf_vital.specs.Rest.{IsRest};
 ghost use Rattle.dmf_vital.specs.Without.{without_arc};
-ghost use Rattle.dmf_vital.specs.Worst.{AreWorst, IsPairLoss};
+ghost use Rattle.dmf_vital.specs.Worst.{AreWorst, IsAmong, IsPairLoss, IsPairLossAmong};
 
 use crate::rerouting::{Rerouting, find_ranks, loss_of_arc, make_rerouting};
-use crate::worst::{Limits, NumberedLoss, consider, may_enter, worst_arcs};
+use crate::worst::{Limits, NumberedLoss, consider, is_among, may_enter, worst_arcs_among};
 use dmf_solver::{plan_close, plan_solve};
 use dmf_state::{NoMemory, State};
 use std::alloc::{AllocError, Global};
@@ -69,23 +69,39 @@ pub fn worst_pairs(alloc: Global, state: &State, most: usize) -> Result<Vec<Numb
     requires { IsGreatest state.now.network state.now.flows }
     ensures { IfOk result (λ worst. AreWorst (IsPairLoss state.now.network) most worst.items) }
 {
-    let least = guess_least(alloc, state, most)?;
-    let worst = list_worst(alloc, state, Limits { most, least })?;
+    let all = vec![in alloc; true; state.arcs().len()]?;
+    worst_pairs_among(alloc, state, &all, most)
+}
+
+/// The same of pairs of some arcs: those for which `among`, which has an element for each arc, has true.
+pub fn worst_pairs_among(
+    alloc: Global,
+    state: &State,
+    among: &[bool],
+    most: usize,
+) -> Result<Vec<NumberedLoss>, NoMemory>
+    requires { IsGreatest state.now.network state.now.flows }
+    ensures { IfOk result (λ worst. AreWorst (IsPairLossAmong state.now.network among.now) most worst.items) }
+{
+    let least = guess_least(alloc, state, among, most)?;
+    let worst = list_worst(alloc, state, among, Limits { most, least })?;
     if worst.len() == most {
         return Ok(worst);
     }
-    list_worst(alloc, state, Limits { most, least: 0 })
+    list_worst(alloc, state, among, Limits { most, least: 0 })
 }
 
 /// Guesses a loss that so many pairs reach: those of a few of the worst arcs with any other. No contract says that they do.
-fn guess_least(alloc: Global, state: &State, most: usize) -> Result<u64, NoMemory>
+fn guess_least(alloc: Global, state: &State, among: &[bool], most: usize) -> Result<u64, NoMemory>
     requires { IsGreatest state.now.network state.now.flows }
 {
-    let tried = worst_arcs(alloc, state, TRIED)?;
+    let tried = worst_arcs_among(alloc, state, among, TRIED)?;
+    let mut left = Vec::from_slice(alloc, among)?;
     let mut greatest = Vec::new(alloc);
     for k in 0..tried.len() {
         let mut rest = leave_out(alloc, state, tried[k].number)?;
-        note_losses(state, &mut rest, &tried[..k], most, &mut greatest)?;
+        leave(&mut left, tried[k].number);
+        note_losses(state, &mut rest, &left, most, &mut greatest)?;
     }
     if most == 0 || greatest.len() < most {
         return Ok(0);
@@ -93,11 +109,19 @@ fn guess_least(alloc: Global, state: &State, most: usize) -> Result<u64, NoMemor
     Ok(greatest[most - 1])
 }
 
-/// Adds the losses of pairs with one first arc to the `most` greatest, but not with arcs that were tried before.
+/// Arc number `j` is no longer among these.
+fn leave(among: &mut Vec<bool>, j: u32) {
+    let k = (j as usize).saturating_sub(1);
+    if k < among.len() {
+        among[k] = false;
+    }
+}
+
+/// Adds the losses of pairs of the closed arc and one among these to the `most` greatest.
 fn note_losses(
     state: &State,
     rest: &mut Rest,
-    tried: &[NumberedLoss],
+    among: &[bool],
     most: usize,
     greatest: &mut Vec<u64>,
 ) -> Result<(), NoMemory>
@@ -105,16 +129,16 @@ fn note_losses(
     requires rest { IsRest state.now.network rest.old }
 {
     for k in 0..state.arcs().len() {
-        note_second(state, rest, tried, most, greatest, k as u32 + 1)?;
+        note_second(state, rest, among, most, greatest, k as u32 + 1)?;
     }
     Ok(())
 }
 
-/// Adds the loss with the second arc number `j` to the `most` greatest, if it is another arc that was not tried before.
+/// Adds the loss with the second arc number `j` to the `most` greatest, if that arc is among these.
 fn note_second(
     state: &State,
     rest: &mut Rest,
-    tried: &[NumberedLoss],
+    among: &[bool],
     most: usize,
     greatest: &mut Vec<u64>,
     j: u32,
@@ -124,23 +148,18 @@ fn note_second(
     requires rest { IsRest state.now.network rest.old }
     ensures { IsRest state.now.network rest.new }
 {
-    if j == rest.without || was_tried(tried, j) {
+    if !is_among(among, j) {
         return Ok(());
     }
-    if !is_among(greatest, most, largest_with(state, rest, j)) {
+    if !may_note(greatest, most, largest_with(state, rest, j)) {
         return Ok(());
     }
     let loss = loss_with(state, rest, j)?;
     Ok(note(greatest, most, loss)?)
 }
 
-/// Whether the arc is one of these.
-fn was_tried(tried: &[NumberedLoss], j: u32) -> bool {
-    tried.iter().any(|one| one.number == j)
-}
-
 /// Whether the loss is one of the `most` greatest.
-fn is_among(greatest: &[u64], most: usize, loss: u64) -> bool {
+fn may_note(greatest: &[u64], most: usize, loss: u64) -> bool {
     if most == 0 {
         return false;
     }
@@ -158,15 +177,28 @@ fn note(greatest: &mut Vec<u64>, most: usize, loss: u64) -> Result<(), AllocErro
     Ok(())
 }
 
-/// The worst pairs whose loss is large enough.
-fn list_worst(alloc: Global, state: &State, limits: Limits) -> Result<Vec<NumberedLoss>, NoMemory>
+/// The worst pairs of arcs among these whose loss is large enough.
+fn list_worst(
+    alloc: Global,
+    state: &State,
+    among: &[bool],
+    limits: Limits,
+) -> Result<Vec<NumberedLoss>, NoMemory>
     requires { IsGreatest state.now.network state.now.flows }
-    ensures { IfOk result (λ worst. AreLargeWorst (IsPairLoss state.now.network) limits worst.items) }
+    ensures { IfOk result (λ worst. AreLargeWorst (IsPairLossAmong state.now.network among.now) limits worst.items) }
 {
     let largest = largest_flow(state);
     let mut worst = Vec::new(alloc);
     for k in 0..state.arcs().len() {
-        consider_first(alloc, state, &mut worst, limits, largest, k as u32 + 1)?;
+        consider_first(
+            alloc,
+            state,
+            among,
+            &mut worst,
+            limits,
+            largest,
+            k as u32 + 1,
+        )?;
     }
     Ok(worst)
 }
@@ -189,6 +221,7 @@ fn largest_flow(state: &State) -> u64
 fn consider_first(
     alloc: Global,
     state: &State,
+    among: &[bool],
     worst: &mut Vec<NumberedLoss>,
     limits: Limits,
     largest: u64,
@@ -197,16 +230,19 @@ fn consider_first(
     requires is_there { has_arc state.now.network i ≡ true }
     requires greatest { IsGreatest state.now.network state.now.flows }
     requires largest { (j : ℕ) → has_arc state.now.network j ≡ true → flow_on state.now.flows j ≤ largest }
-    requires worst { AreWorstUpTo (IsPairLoss state.now.network) i 0 limits worst.old.items }
-    ensures { IfOk result (λ _. AreWorstUpTo (IsPairLoss state.now.network) (i + 1) 0 limits worst.new.items) }
+    requires worst { AreWorstUpTo (IsPairLossAmong state.now.network among.now) i 0 limits worst.old.items }
+    ensures { IfOk result (λ _. AreWorstUpTo (IsPairLossAmong state.now.network among.now) (i + 1) 0 limits worst.new.items) }
 {
+    if !is_among(among, i) {
+        return Ok(());
+    }
     let bound = state.flow(i).saturating_add(largest).min(state.value());
     if !may_enter(worst, limits, bound) {
         return Ok(());
     }
     let mut rest = leave_out(alloc, state, i)?;
     for k in i as usize..state.arcs().len() {
-        consider_second(state, &mut rest, worst, limits, k as u32 + 1)?;
+        consider_second(state, &mut rest, among, worst, limits, k as u32 + 1)?;
     }
     Ok(())
 }
@@ -215,19 +251,24 @@ fn consider_first(
 fn consider_second(
     state: &State,
     rest: &mut Rest,
+    among: &[bool],
     worst: &mut Vec<NumberedLoss>,
     limits: Limits,
     j: u32,
 ) -> Result<(), NoMemory>
     requires is_there { has_arc state.now.network j ≡ true }
+    requires first { IsAmong among.now rest.old.without }
     requires after { rest.old.without < j }
     requires greatest { IsGreatest state.now.network state.now.flows }
     requires rest { IsRest state.now.network rest.old }
-    requires worst { AreWorstUpTo (IsPairLoss state.now.network) rest.old.without (j - 1) limits worst.old.items }
-    ensures worst { IfOk result (λ _. AreWorstUpTo (IsPairLoss state.now.network) rest.old.without j limits worst.new.items) }
+    requires worst { AreWorstUpTo (IsPairLossAmong state.now.network among.now) rest.old.without (j - 1) limits worst.old.items }
+    ensures worst { IfOk result (λ _. AreWorstUpTo (IsPairLossAmong state.now.network among.now) rest.old.without j limits worst.new.items) }
     ensures rest { IsRest state.now.network rest.new }
     ensures same { rest.new.without ≡ rest.old.without }
 {
+    if !is_among(among, j) {
+        return Ok(());
+    }
     if !may_enter(worst, limits, largest_with(state, rest, j)) {
         return Ok(());
     }

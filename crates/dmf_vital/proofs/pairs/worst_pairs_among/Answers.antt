@@ -1,0 +1,18 @@
+use Rattle.std.proofs.Common.{inl, inr, refl, arith}
+use Rattle.dmf_vital.specs.declared.worst.Limits.{Limits}
+use Rattle.dmf_vital.specs.Entering.{AreLargeWorst}
+use Rattle.dmf_vital.specs.Worst.{IsPairLossAmong}
+use Rattle.dmf_vital.proofs.Entered.{worst-full}
+use Rattle.dmf_vital.proofs.Lost.{if-ok}
+use Rattle.dmf_vital.proofs.pairs.worst_pairs_among.Goals as goal
+
+pub returns-then-len-most : goal.returns-then-len-most
+returns-then-len-most c = worst-full (IsPairLossAmong c.args.state.now.network c.args.among.now)
+    (record { most = c.args.most; least = c.in_ok-least.least }) c.in_ok-worst.worst.items c.in_ok-worst.ensures (inr (omega (arith, c.len.ensures, c.if-len-most.true, c.in_ok-worst.worst.ok.0)))
+
+pub returns : goal.returns
+returns c =
+    let n = c.args.state.now.network in
+    let limits : Limits = record { most = c.args.most; least = 0 } in
+    if-ok c.list_worst-2.result (λ worst. AreLargeWorst (IsPairLossAmong n c.args.among.now) limits worst.items) _ c.list_worst-2.ensures (λ worst are.
+    worst-full (IsPairLossAmong n c.args.among.now) limits worst.items are (inl refl))
