@@ -1,5 +1,5 @@
 -- What is lost without two arcs.
-use Rattle.std.proofs.Common.{ℕ, zero, suc, ◌≡◌, ◌≢◌, ◌+◌, ◌-◌, ◌≤◌, List, [], ◌∷◌, false, true, refl, ap, sym, ◌∙◌, subst, arith, pos, set, get_or, length}
+use Rattle.std.proofs.Common.{ℕ, zero, suc, ◌≡◌, ◌≢◌, ◌+◌, ◌-◌, ◌≤◌, Bool, List, [], ◌∷◌, true, refl, ap, sym, ◌∙◌, subst, arith, pos, set, get_or, length}
 use Rattle.std.proofs.lemmas.Int.{ints}
 use Rattle.std.proofs.lemmas.List.{length-set, get_or-set_other, get_or-set_same, set-get_or, set-set}
 use Rattle.std.proofs.lemmas.List.Sums.{sum_by-set}
@@ -12,15 +12,19 @@ use Rattle.dmf_state.specs.NetworkState.{NetworkState, IsState}
 use Rattle.dmf_state.proofs.ChangedArc.{has_arc-within, IsFlow-with_arc, IsNetwork-with_arc, flow_value-with_arc}
 use Rattle.dmf_state.proofs.Changing.{within-at}
 use Rattle.dmf_solver.specs.Greatest.{IsGreatest}
+use Rattle.dmf_vital.specs.declared.worst.Limits.{Limits}
+use Rattle.dmf_vital.specs.Entering.{AreWorstUpTo, IsShutOut}
 use Rattle.dmf_vital.specs.GreatestValue.{IsGreatestValue}
-use Rattle.dmf_vital.specs.declared.pairs.Rest.{Rest}
+use Rattle.dmf_vital.specs.declared.rest.Rest.{Rest}
 use Rattle.dmf_vital.specs.declared.worst.NumberedLoss.{NumberedLoss}
 use Rattle.dmf_vital.specs.Laws.{PairHasLoss, PairLossIsAtMostFlow}
 use Rattle.dmf_vital.specs.Loss.{IsLoss, IsLossOfArc, IsLossOfPair}
 use Rattle.dmf_vital.specs.Rest.{IsRest}
 use Rattle.dmf_vital.specs.Without.{without_arc, without_pair}
+use Rattle.dmf_vital.specs.Worst.{IsPairLossAmong}
 use Rattle.dmf_vital.proofs.Bounds.{loss-at_most_flow, some-loss, value-no_more}
 use Rattle.dmf_vital.proofs.Closing.{network-without}
+use Rattle.dmf_vital.proofs.Entered.{first-next, next-out, wider-first}
 use Rattle.dmf_vital.proofs.Values.{one-loss, one-value, value-is_greatest}
 
 -- What is lost by one change and then by another is lost by both.
@@ -224,3 +228,14 @@ module _ (n : Network) (flows : List ℕ) (i j : ℕ) (network : IsNetwork n) (g
 
 pub pair_loss-at_most_flow : PairLossIsAtMostFlow
 pair_loss-at_most_flow n flows i j loss network greatest apart pair = pair-at_most_flow n flows i j network greatest pair.0 pair.1 apart loss pair
+
+-- ---- the first arcs of pairs
+
+-- If no pair with this first arc is worse than those of the list, the list is the same after it.
+pub first-out : (n : Network) (among : List Bool) (i : ℕ) (limits : Limits) (worst : List NumberedLoss) (bound : ℕ)
+    → AreWorstUpTo (IsPairLossAmong n among) i 0 limits worst → ((j loss : ℕ) → i ≢ j → IsLossOfPair n i j loss → loss ≤ bound)
+    → IsShutOut bound limits worst → AreWorstUpTo (IsPairLossAmong n among) (i + 1) 0 limits worst
+first-out n among i limits worst bound are most out = next-out (IsPairLossAmong n among) i 0 (i + 1) 0 limits worst (wider-first i 0) are bound out (λ w next.
+    let same = first-next i 0 w next.0.0.0 next.1 next.2 in
+    let pair : IsLossOfPair n i w.second w.loss = subst (λ k. IsLossOfPair n k w.second w.loss) same.0 next.0.0.1 in
+    most w.second w.loss (λ e. omega (arith, e, same.0, next.0.0.0)) pair)

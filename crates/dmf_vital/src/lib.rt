@@ -7,12 +7,13 @@ pub use laws::{
     second_has_gain, shutting_leaves_out, worst_is_most_vital,
 };
 pub use loss::{arc_losses, node_losses, value_without_arc, value_without_node};
-pub use pairs::{pair_losses, worst_pairs, worst_pairs_among};
-pub use worst::{NumberedLoss, worst_arcs, worst_arcs_among, worst_nodes};
+pub use pairs::{pair_losses, worst_pairs};
+pub use worst::{NumberedLoss, worst_arcs, worst_nodes};
 
 mod chains;
 mod cursor;
 mod exits;
+mod guess;
 mod hop;
 mod laws;
 mod loss;
@@ -21,6 +22,7 @@ mod parts;
 mod push;
 mod ranks;
 mod rerouting;
+mod rest;
 mod search;
 mod tree;
 mod worst;

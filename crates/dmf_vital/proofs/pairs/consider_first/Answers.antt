@@ -1,40 +1,49 @@
-use Rattle.std.proofs.Common.{ℕ, ◌≡◌, ◌+◌, ◌-◌, ◌^◌, ◌<◌, ◌≤◌, ap, length, subst, sym, ◌∙◌, arith}
-use Rattle.std.proofs.Math.Nat.{le-min}
-use Rattle.std.proofs.lemmas.Option.{get_or_from_slice_get}
-use Rattle.dmf_state.specs.Flow.{flow_on}
+use Rattle.std.proofs.Common.{ℕ, ◌≡◌, ◌+◌, ◌-◌, List, ap, length, subst, sym, ◌∙◌, arith}
+use Rattle.std.specs.List.{AllPairs}
 use Rattle.dmf_state.proofs.ChangedArc.{has_arc-within}
+use Rattle.dmf_vital.specs.declared.worst.NumberedLoss.{NumberedLoss}
 use Rattle.dmf_vital.specs.Entering.{AreWorstUpTo, IsShutOut}
-use Rattle.dmf_vital.specs.Loss.{IsLossOfPair}
-use Rattle.dmf_vital.specs.Worst.{IsPairLossAmong}
-use Rattle.dmf_vital.proofs.Both.{pair-at_most_flow, pair-at_most_whole, pair-of}
-use Rattle.dmf_vital.proofs.Entered.{first-next, next-none, next-out, none-next, not-among, wider-first, wider-none}
+use Rattle.dmf_vital.specs.Worst.{IsPairLossAmong, IsWorse}
+use Rattle.dmf_vital.proofs.Both.{first-out}
+use Rattle.dmf_vital.proofs.Entered.{first-next, next-none, none-next, not-among, wider-first, wider-none}
 use Rattle.dmf_vital.proofs.pairs.consider_first.Goals as goal
 
 pub returns-then-not-is_among : goal.returns-then-not-is_among
 returns-then-not-is_among c =
     let n = c.args.state.now.network in
     let i : ℕ = c.args.i in
-    next-none (IsPairLossAmong n c.args.among.now) i 0 (i + 1) 0 c.args.limits c.args.worst.now.items (wider-first i 0) c.requires.worst (λ w next.
-    let same = first-next i 0 w next.0.0.0 next.1 next.2 in
-    not-among c.args.among.now w.number i same.0 next.0.1 (sym c.is_among.ensures ∙ c.if-not-is_among.true))
+    record {
+      worst = next-none (IsPairLossAmong n c.args.among.now) i 0 (i + 1) 0 c.args.limits c.args.worst.now.items (wider-first i 0) c.requires.worst (λ w next.
+          let same = first-next i 0 w next.0.0.0 next.1 next.2 in
+          not-among c.args.among.now w.number i same.0 next.0.1 (sym c.is_among.ensures ∙ c.if-not-is_among.true));
+      whole = c.requires.whole;
+    }
+
+pub may_enter-requires-clause-order : goal.may_enter-requires-clause-order
+may_enter-requires-clause-order c = subst (λ (l : List NumberedLoss). AllPairs IsWorse l) (sym c.deref.ensures.value) c.requires.worst.in_order
+
+pub may_enter-requires-2-clause-order : goal.may_enter-requires-2-clause-order
+may_enter-requires-2-clause-order c = subst (λ (l : List NumberedLoss). AllPairs IsWorse l) (sym c.deref-2.ensures.value) c.requires.worst.in_order
 
 pub returns-then-not-may_enter : goal.returns-then-not-may_enter
 returns-then-not-may_enter c =
-    let s = c.args.state.now in
-    let n = s.network in
-    let i : ℕ = c.args.i in
-    let flow : c.flow.result ≡ flow_on s.flows i = sym (get_or_from_slice_get s.flows (i - 1) c.flow.result 0 c.flow.ensures) in
-    let out : IsShutOut c.min-bound.result c.args.limits c.args.worst.now.items =
-    subst (IsShutOut c.min-bound.result c.args.limits) c.deref.ensures.value (c.may_enter.ensures c.if-not-may_enter.true) in
-    next-out (IsPairLossAmong n c.args.among.now) i 0 (i + 1) 0 c.args.limits c.args.worst.now.items (wider-first i 0) c.requires.worst c.min-bound.result out (λ w next.
-    let same = first-next i 0 w next.0.0.0 next.1 next.2 in
-    let pair : IsLossOfPair n i w.second w.loss = subst (λ k. IsLossOfPair n k w.second w.loss) same.0 next.0.0.1 in
-    let most = pair-at_most_flow n s.flows i w.second c.value.ensures.state.network c.requires.greatest pair.0 pair.1 (λ e. omega (arith, e, same.0, next.0.0.0)) w.loss pair in
-    let whole = pair-at_most_whole s i w.second w.loss c.value.result c.requires.greatest c.value.ensures.value pair in
-    let large : w.loss < 2 ^ 64 = omega (arith, whole, c.value.type_inv) in
-    let bound : w.loss ≤ c.saturating_add.result = subst (λ m. w.loss ≤ m) (sym c.saturating_add.ensures)
-    (le-min (omega (arith, most, flow, c.requires.largest w.second pair.1)) (omega (arith, large))) in
-    subst (λ m. w.loss ≤ m) (sym c.min-bound.ensures) (le-min bound whole))
+    let out : IsShutOut c.largest_beside.result c.args.limits c.args.worst.now.items =
+    subst (IsShutOut c.largest_beside.result c.args.limits) c.deref.ensures.value (c.may_enter.ensures c.if-not-may_enter.true) in
+    record {
+      worst = first-out c.args.state.now.network c.args.among.now c.args.i c.args.limits c.args.worst.now.items c.largest_beside.result c.requires.worst
+          c.largest_beside.ensures out;
+      whole = c.requires.whole;
+    }
+
+pub returns-then-not-may_enter-2 : goal.returns-then-not-may_enter-2
+returns-then-not-may_enter-2 c =
+    let out : IsShutOut c.largest_beside-2.result c.args.limits c.args.worst.now.items =
+    subst (IsShutOut c.largest_beside-2.result c.args.limits) c.deref-2.ensures.value (c.may_enter-2.ensures c.if-not-may_enter-2.true) in
+    record {
+      worst = first-out c.args.state.now.network c.args.among.now c.args.i c.args.limits c.args.worst.now.items c.largest_beside-2.result c.requires.worst
+          c.largest_beside-2.ensures out;
+      whole = c.in_ok-move_off_arc.ensures;
+    }
 
 pub loop-k-init : goal.loop-k-init
 loop-k-init c = record {
@@ -56,7 +65,10 @@ returns c =
     let n = c.args.state.now.network in
     let i : ℕ = c.args.i in
     let k : ℕ = c.loop-k.k in
-    next-none (IsPairLossAmong n c.args.among.now) i k (i + 1) 0 c.args.limits c.loop-k.worst.items (wider-first i k) c.loop-k.invariant.worst (λ w next.
-    let same = first-next i k w next.0.0.0 next.1 next.2 in
-    let at = has_arc-within n w.second next.0.0.1.1 in
-    omega (arith, at.1, at.0, same.1, c.loop-k-test.false, ap length c.arcs-k-end.ensures.value))
+    record {
+      worst = next-none (IsPairLossAmong n c.args.among.now) i k (i + 1) 0 c.args.limits c.loop-k.worst.items (wider-first i k) c.loop-k.invariant.worst (λ w next.
+          let same = first-next i k w next.0.0.0 next.1 next.2 in
+          let at = has_arc-within n w.second next.0.0.1.1 in
+          omega (arith, at.1, at.0, same.1, c.loop-k-test.false, ap length c.arcs-k-end.ensures.value));
+      whole = c.in_ok-move_off_arc.ensures;
+    }

@@ -1,4 +1,4 @@
-use Rattle.std.proofs.Common.{ℕ, ◌≡◌, ◌≢◌, ◌+◌, ◌<◌, length, get_or, set, ap, sym, ◌∙◌, subst, arith, ⊎_elim}
+use Rattle.std.proofs.Common.{ℕ, ◌≡◌, ◌≢◌, ◌<◌, length, get_or, set, ap, sym, ◌∙◌, subst, arith, ⊎_elim}
 use Rattle.std.proofs.lemmas.Bool.{cases_eq}
 use Rattle.std.proofs.lemmas.List.{get_or-set_same, get_or-set_other, length-set}
 use Rattle.dmf_vital.specs.Loss.{IsLossOfPair}
@@ -16,6 +16,7 @@ loop-k-preserved c =
     let own : IsLossOfPair n (get_or firsts k 0) (get_or seconds k 0) loss =
     subst (λ m. IsLossOfPair n m (get_or seconds k 0) loss) c.in_ok-rest-2.ensures.same c.in_ok-losses-2.ensures.loss in
     record {
+      whole = c.in_ok-rest-2.ensures.whole;
       rest = c.loss_with.ensures.rest;
       one_each = length-set old k loss ∙ c.loop-k.invariant.one_each;
       losses = λ i h. ⊎_elim

@@ -1,5 +1,5 @@
 use Rattle.dmf_vital.specs.Rest.{IsRest}
-use Rattle.dmf_vital.proofs.pairs.note_losses.Given as goal
+use Rattle.dmf_vital.proofs.guess.note_losses.Given as goal
 
 abbrev pub invariant-loop-k : goal.invariant-loop-k
 invariant-loop-k l = IsRest l.state.network l.rest

@@ -1,5 +1,5 @@
 use Rattle.std.proofs.Common.{◌≤◌, length}
-use Rattle.dmf_vital.proofs.pairs.note.Given as goal
+use Rattle.dmf_vital.proofs.guess.note.Given as goal
 
 abbrev pub invariant-loop-place : goal.invariant-loop-place
 invariant-loop-place l = l.place ≤ length l.greatest.items

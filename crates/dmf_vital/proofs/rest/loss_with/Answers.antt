@@ -1,5 +1,5 @@
 use Rattle.dmf_vital.proofs.Both.{less-at_most, pair-loss}
-use Rattle.dmf_vital.proofs.pairs.loss_with.Goals as goal
+use Rattle.dmf_vital.proofs.rest.loss_with.Goals as goal
 
 pub overflow_sub-lost : goal.overflow_sub-lost
 overflow_sub-lost c = less-at_most c.args.state.now c.args.rest.now c.value.result c.value-2.result c.value.ensures.state c.requires.greatest c.requires.rest

@@ -4,7 +4,7 @@ use Rattle.std.proofs.lemmas.List.{get_or_read}
 use Rattle.dmf_state.specs.Flow.{flow_on}
 use Rattle.dmf_state.proofs.ChangedArc.{has_arc-within}
 use Rattle.dmf_vital.proofs.Both.{less-at_most, long-rest, pair-at_most, pair-at_most_whole}
-use Rattle.dmf_vital.proofs.pairs.largest_with.Goals as goal
+use Rattle.dmf_vital.proofs.rest.largest_with.Goals as goal
 
 pub overflow_sub-lost : goal.overflow_sub-lost
 overflow_sub-lost c = less-at_most c.args.state.now c.args.rest.now c.value.result c.value-2.result c.value.ensures.state c.requires.greatest c.requires.rest

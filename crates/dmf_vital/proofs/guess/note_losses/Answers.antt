@@ -1,6 +1,6 @@
 use Rattle.std.proofs.Common.{◌+◌, ap, arith, length}
 use Rattle.dmf_vital.proofs.Chained.{has-arc}
-use Rattle.dmf_vital.proofs.pairs.note_losses.Goals as goal
+use Rattle.dmf_vital.proofs.guess.note_losses.Goals as goal
 
 pub note_second-requires-clause-is_there : goal.note_second-requires-clause-is_there
 note_second-requires-clause-is_there c = has-arc c.args.state.now.network (c.loop-k.k + 1) (omega arith)
