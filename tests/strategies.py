@@ -215,8 +215,10 @@ BRIEF = st.sampled_from([(), (), (b"--brief",)])
 ANY = st.sampled_from([(), (b"--any",)])
 NODES = st.sampled_from([(), (b"--nodes",)])
 WORST: st.SearchStrategy[tuple[bytes, ...]] = st.sampled_from(
-    [(), (), (b"--worst", b"0"), (b"--worst", b"1"), (b"--worst", b"3")]
+    [(b"--worst", b"0"), (b"--worst", b"1"), (b"--worst", b"3")]
 )
+PAIRS: st.SearchStrategy[tuple[bytes, ...]] = WORST.map(lambda worst: (b"--pairs", *worst))
+VALUED = st.one_of(NODES, st.tuples(NODES, WORST).map(lambda words: words[0] + words[1]), PAIRS)
 BOUNDS: st.SearchStrategy[tuple[bytes, ...]] = st.sampled_from(
     [(), (), (b"--history", b"0"), (b"--history", b"1"), (b"--history", b"2")]
 )
@@ -230,9 +232,9 @@ def solves(draw: st.DrawFn) -> Case:
 
 @st.composite
 def values(draw: st.DrawFn) -> Case:
-    """What is left without each arc, or without each node, or without the worst."""
+    """What is left without each arc, or without each node, or without the worst, also of pairs."""
     text = draw(texts(problem_lines(draw(networks().filter(fits))), b"cx"))
-    return Case("values", (b"vital", *draw(NODES), *draw(WORST)), text, text)
+    return Case("values", (b"vital", *draw(VALUED)), text, text)
 
 
 @st.composite

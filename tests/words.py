@@ -19,12 +19,12 @@ from worked_forms import CROSSED, CROSSED_FLOW, Worked, text
 USAGE = """Usage: dmf [solve [--any] [--brief] [--cut] [--progress]] <FILE
        dmf session [--brief] [--cut] [--history N] [--progress] PROBLEM
        dmf check PROBLEM <SOLUTION
-       dmf vital [--nodes] [--progress] [--worst N] <FILE
+       dmf vital [--nodes | --pairs] [--progress] [--worst N] <FILE
 """
 SOLVE = "Usage: dmf solve [--any] [--brief] [--cut] [--progress] <FILE\n"
 SESSION = "Usage: dmf session [--brief] [--cut] [--history N] [--progress] PROBLEM\n"
 CHECK = "Usage: dmf check PROBLEM <SOLUTION\n"
-VITAL = "Usage: dmf vital [--nodes] [--progress] [--worst N] <FILE\n"
+VITAL = "Usage: dmf vital [--nodes | --pairs] [--progress] [--worst N] <FILE\n"
 # The tools around the program, by their files.
 TOOLS = [
     name
@@ -103,6 +103,13 @@ REFUSED = [
     ("vital --nodes --cut", "unexpected argument '--cut' found"),
     ("vital --nodes=2", "unexpected value '2' for '--nodes' found"),
     ("vital --nodes --nodes", "cannot be used multiple times"),
+    ("vital --pairs=2", "unexpected value '2' for '--pairs' found"),
+    ("vital --pairs --pairs", "cannot be used multiple times"),
+    ("vital --pairs", "the following required arguments were not provided:\n  --worst <N>\n"),
+    ("vital --pairs --progress", "were not provided:\n  --worst <N>\n"),
+    ("vital --pairs --nodes", "the argument '--nodes' cannot be used with '--pairs'\n"),
+    ("vital --worst 1 --pairs --nodes", "the argument '--nodes' cannot be used with '--pairs'\n"),
+    ("vital --pairs --worst 1 P", "unexpected argument 'P' found"),
     ("vital --progress --progress", "cannot be used multiple times"),
     ("vital --worst 1 --worst 1", "cannot be used multiple times"),
     ("vital --worst -1", "unexpected argument '-1' found"),
@@ -115,6 +122,10 @@ REFUSED = [
     ("solve --nodes", "unexpected argument '--nodes' found"),
     ("session --nodes P", "unexpected argument '--nodes' found"),
     ("check --nodes P", "unexpected argument '--nodes' found"),
+    ("--pairs", "unexpected argument '--pairs' found"),
+    ("solve --pairs", "unexpected argument '--pairs' found"),
+    ("session --pairs P", "unexpected argument '--pairs' found"),
+    ("check --pairs P", "unexpected argument '--pairs' found"),
     ("Vital", "unrecognized subcommand 'Vital'"),
 ]
 # Words with a bound that is refused, each with a part of the text that tells it.
@@ -138,6 +149,7 @@ FORMS = [
     ("session", SESSION),
     ("check", CHECK),
     ("vital net.max", VITAL),
+    ("vital --pairs", VITAL),
 ]
 # Words, each with parts of the help that they ask for.
 HELPS: list[tuple[str, tuple[str, ...]]] = [
@@ -192,14 +204,17 @@ HELPS: list[tuple[str, tuple[str, ...]]] = [
         (
             VITAL,
             "Leave out each node in turn, rather than each arc\n",
+            "Leave out pairs of arcs; needs --worst\n",
             "Tell on standard error how far it is\n",
             "--worst <N>",
             "\n  $ dmf vital <network.max\n  c value 5\n",
             "\n  $ dmf vital --nodes <network.max\n  c value 5\n  v 2 2\n  v 3 2\n",
             "\n  $ dmf vital --worst 2 <network.max\n  c value 5\n  v 1 2\n  v 5 2\n",
+            "\n  $ dmf vital --pairs --worst 2 <network.max\n  c value 5\n  v 1 2 0\n  v 1 5 0\n",
         ),
     ),
     ("vital --progress -h", (VITAL,)),
+    ("vital --pairs --nodes -h", (VITAL,)),
     ("help vital", (VITAL,)),
 ]
 VERSIONS = [(word, f"dmf {RELEASE}\n") for word in ("--version", "-V")]
@@ -208,7 +223,7 @@ VERSIONS = [(word, f"dmf {RELEASE}\n") for word in ("--version", "-V")]
 # What may stand after a command; the words of one part stand together.
 PARTS = ("--brief",), ("--cut",), ("--history", "1"), ("--progress",), (PROBLEM.decode(),)
 SOLVE_PARTS = ("--any",), *PARTS
-VITAL_PARTS = ("--nodes",), ("--worst", "2"), *PARTS
+VITAL_PARTS = ("--nodes",), ("--pairs",), ("--worst", "2"), *PARTS
 # What else may stand after `session`: other ways to write a bound, and paths that look like other
 # words. Of these paths only one has a file.
 SESSION_WORDS = (

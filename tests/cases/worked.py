@@ -16,6 +16,7 @@ from worked_forms import (
     LOOSE,
     LOOSE_FLOW,
     NODES,
+    PAIRS,
     PARALLEL,
     TWO,
     WORST,
@@ -142,6 +143,42 @@ VITAL = [
         NODES,
         WORST,
         b"2",
+    ),
+    valued("no pair", LARGEST, "c value 18446744073709551615", PAIRS, WORST, b"1"),
+    valued("none of the worst pairs", CROSSED, "c value 5", PAIRS, WORST, b"0"),
+    valued(
+        "all pairs, the worst first and equal losses in order of both numbers",
+        CROSSED,
+        "c value 5 / v 1 2 0 / v 1 5 0 / v 4 5 0 / v 1 3 2 / v 1 4 2 / v 2 3 2 / v 2 5 2 / v 3 4 2 "
+        "/ v 3 5 2 / v 2 4 3",
+        PAIRS,
+        WORST,
+        b"10000",
+    ),
+    valued(
+        "pairs of arcs of which each has another to stand in",
+        JOINED,
+        "c value 1 / v 1 2 0 / v 1 4 0 / v 1 5 0 / v 2 3 0 / v 2 5 0 / v 3 4 0 / v 3 5 0 / v 4 5 0 "
+        "/ v 1 3 1",
+        PAIRS,
+        WORST,
+        b"9",
+    ),
+    valued(
+        "without both halves of 64 bits",
+        "p max 2 2 / n 1 s / n 2 t / a 1 2 9223372036854775807 / a 1 2 9223372036854775808",
+        "c value 18446744073709551615 / v 1 2 0",
+        PAIRS,
+        WORST,
+        b"1",
+    ),
+    valued(
+        "the worst pairs beside parallel arcs and a loop",
+        PARALLEL,
+        "c value 5 / v 4 5 0 / v 4 6 0 / v 3 5 1 / v 3 6 1",
+        WORST,
+        b"4",
+        PAIRS,
     ),
 ]
 FAULTS = [

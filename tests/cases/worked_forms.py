@@ -61,6 +61,7 @@ def wrong(problem: str | bytes, solution: str | bytes, told: str) -> Worked:
 
 CUT = b"--cut"
 NODES = b"--nodes"
+PAIRS = b"--pairs"
 WORST = b"--worst"
 BRIEF = b"--brief"
 # Four nodes: two ways from the source to the sink, and an arc from the one to the other.

@@ -5,6 +5,7 @@ from __future__ import annotations
 import re
 from collections.abc import Callable, Sequence
 from dataclasses import replace
+from itertools import combinations
 from pathlib import Path
 from typing import NamedTuple, Protocol
 
@@ -77,7 +78,7 @@ class Outcome(NamedTuple):
 
 class Asked(NamedTuple):
     """What words ask for: a command, what is wanted of a solve's reply, the bound of the history,
-    the path where one is, whether any greatest flow will do, whether nodes are valued, and how many
+    the path where one is, whether any greatest flow will do, what is left out in turn, and how many
     of the worst are told, where not all are."""
 
     command: str
@@ -85,7 +86,7 @@ class Asked(NamedTuple):
     bound: int
     path: str = ""
     is_any: bool = False
-    of_nodes: bool = False
+    parts: str = "arcs"
     most: int | None = None
 
 
@@ -114,7 +115,7 @@ FLAGS: dict[str, tuple[str, ...]] = {
     "solve": ("--any", "--brief", "--cut", "--progress"),
     "session": ("--brief", "--cut", "--progress"),
     "check": (),
-    "vital": ("--nodes", "--progress"),
+    "vital": ("--nodes", "--pairs", "--progress"),
 }
 
 
@@ -160,17 +161,17 @@ def value_without(state: State, closed: Callable[[int, Arc], bool]) -> int:
     return solved(replace(state, arcs=arcs)).value()
 
 
-def vital(problem: bytes, of_nodes: bool, most: int | None) -> Outcome:
+def vital(problem: bytes, parts: str, most: int | None) -> Outcome:
     state = judged(read_problem, bounded(problem))
-    if of_nodes:
+    if parts == "nodes":
         inner = sorted(set(range(1, state.nodes + 1)) - {state.source, state.sink})
-        values = [(v, value_without(state, lambda _, arc: v in arc[:2])) for v in inner]
+        values = [((v,), value_without(state, lambda _, arc: v in arc[:2])) for v in inner]
     else:
-        numbers = range(1, len(state.arcs) + 1)
-        values = [(j, value_without(state, lambda number, _: number == j)) for j in numbers]
+        chosen = combinations(range(1, len(state.arcs) + 1), 2 if parts == "pairs" else 1)
+        values = [(js, value_without(state, lambda number, _: number in js)) for js in chosen]
     if most is not None:
-        values = sorted(values, key=lambda pair: (pair[1], pair[0]))[:most]
-    lines = [written("v", number, value) for number, value in values]
+        values = sorted(values, key=lambda row: (row[1], row[0]))[:most]
+    lines = [written("v", *numbers, value) for numbers, value in values]
     return Outcome(WELL, written("c", "value", solved(state).value()) + b"".join(lines))
 
 
@@ -272,6 +273,8 @@ def asked_of(command: str, words: list[str]) -> Asked | Outcome:
             return REFUSED_WORDS
     if len(paths) < path_count:
         return REFUSED_WORDS
+    if "--pairs" in flags and ("--nodes" in flags or number is None):
+        return REFUSED_WORDS
     wanted = SolveReply(cut="--cut" in flags, brief="--brief" in flags)
     return Asked(
         command,
@@ -279,7 +282,7 @@ def asked_of(command: str, words: list[str]) -> Asked | Outcome:
         number if command == "session" and number is not None else MOST_KEPT,
         "".join(paths),
         "--any" in flags,
-        "--nodes" in flags,
+        next((flag[2:] for flag in ("--nodes", "--pairs") if flag in flags), "arcs"),
         number if command == "vital" else None,
     )
 
@@ -293,12 +296,12 @@ def run(words: Sequence[bytes], standard_input: bytes, refusals: Refusals | None
     asked_for = asked(texts)
     if isinstance(asked_for, Outcome):
         return asked_for
-    command, wanted, bound, path, is_any, of_nodes, most = asked_for
+    command, wanted, bound, path, is_any, parts, most = asked_for
     try:
         if command == "solve":
             return solve(standard_input, wanted, is_any)
         if command == "vital":
-            return vital(standard_input, of_nodes, most)
+            return vital(standard_input, parts, most)
         if command == "check":
             return check(read_file(path), standard_input)
         return session(read_file(path), standard_input, wanted, bound, refusals)

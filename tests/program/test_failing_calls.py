@@ -26,7 +26,10 @@ INPUT, OUTPUT = 0, 1
 LINE_FEED = 10
 # A solution that is longer than the program's buffer of 1,024 bytes, so that a write fails before
 # the flush, and a session with such replies.
-WIDE = text("p max 2 100 / n 1 s / n 2 t" + " / a 1 2 10000000000000000" * 100)
+WIDE, PAIRED = (
+    text(f"p max 2 {count} / n 1 s / n 2 t" + " / a 1 2 10000000000000000" * count)
+    for count in (100, 12)
+)
 # As many nodes in a row, whose values are as long.
 ROWED = text(
     "p max 200 199 / n 1 s / n 200 t" + "".join(f" / a {v} {v + 1} 9" for v in range(1, 200))
@@ -36,6 +39,7 @@ LONG = [
     Case("many values", (b"vital",), WIDE, WIDE),
     Case("many values of nodes", (b"vital", b"--nodes"), ROWED, ROWED),
     Case("many of the worst", (b"vital", b"--worst", b"1000"), WIDE, WIDE),
+    Case("many pairs", (b"vital", b"--pairs", b"--worst", b"1000"), PAIRED, PAIRED),
     Case("long replies", (b"session", PROBLEM), WIDE, text("solve / print problem / print cut")),
 ]
 WORDS = [

@@ -65,6 +65,7 @@ CASES = [
     case("what is left without each arc", "vital", CROSSED),
     case("what is left without each node", "vital --nodes", CROSSED),
     case("what is left without the worst", "vital --worst 2", CROSSED),
+    case("what is left without the worst pairs", "vital --pairs --worst 2", CROSSED),
     case("a check", f"check {PROBLEM.decode()}", CROSSED_FLOW),
     case("a check of another flow", f"check {PROBLEM.decode()}", "s 0"),
     case("a session", SESSION, CHANGES),

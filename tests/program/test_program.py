@@ -58,6 +58,8 @@ REFUSED_WORDS = {
     "a cut of vital": ["vital", "--cut"],
     "an option of vital that does not exist": ["vital", "--arcs"],
     "nodes of vital twice": ["vital", "--nodes", "--nodes"],
+    "pairs of vital without a number": ["vital", "--pairs"],
+    "pairs and nodes of vital": ["vital", "--pairs", "--nodes", "--worst", "1"],
     "nodes of a solve": ["solve", "--nodes"],
     "the worst of a solve": ["solve", "--worst", "1"],
     "progress of vital twice": ["vital", "--progress", "--progress"],

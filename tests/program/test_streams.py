@@ -91,6 +91,12 @@ CLOSED: dict[str, tuple[set[int], str, bytes, tuple[int, bytes, bytes]]] = {
     "no output of a solution": ({OUTPUT}, "solve", A, (4, b"", WRITE_FAILED)),
     "no output of values": ({OUTPUT}, "vital", A, (4, b"", WRITE_FAILED)),
     "no output of values of nodes": ({OUTPUT}, "vital --nodes", A, (4, b"", WRITE_FAILED)),
+    "no output of values of pairs": (
+        {OUTPUT},
+        "vital --pairs --worst 3",
+        A,
+        (4, b"", WRITE_FAILED),
+    ),
     "no output of a session": (
         {OUTPUT},
         "session problem.max",
@@ -255,6 +261,11 @@ SMALL = {
     ),
     "a solution is checked": ("check examples/a.max", SOLUTION, (0, b"c greatest 5\n")),
     "each node is valued": ("vital --nodes", A, (0, b"c value 5\nv 2 2\nv 3 2\n")),
+    "the worst pairs are valued": (
+        "vital --pairs --worst 2",
+        A,
+        (0, b"c value 5\nv 1 2 0\nv 1 5 0\n"),
+    ),
     "each arc is valued": ("vital", A, (0, b"c value 5\nv 1 2\nv 2 3\nv 3 4\nv 4 3\nv 5 2\n")),
 }
 

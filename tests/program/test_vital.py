@@ -1,11 +1,13 @@
 """Compares what `dmf vital` writes with whole solves of the network without each arc or each node,
 by networkx, and the worst of them with all: on random networks, on those of each family of the
-benchmark, and on the examples. `--long` tries 100,000 random networks."""
+benchmark, and on the examples. On small random networks it compares the worst pairs of arcs with
+all of them. `--long` tries 100,000 random networks, and 10,000 for pairs."""
 
 from __future__ import annotations
 
 from collections.abc import Callable
 from contextlib import suppress
+from itertools import combinations, pairwise
 from random import Random
 
 import built
@@ -15,31 +17,33 @@ from built import Case
 from conftest import ROOT
 from oracle.network import Arc, State
 from oracle.problem import read_problem
-from oracle.texts import LineFault
+from oracle.texts import LARGEST, LineFault
 from program.test_quick_solves import FAMILIES, Generate, generate
 from random_cases import MOST_VALUED, fitting, network, plain_text, problem_lines
 
 # The networks of the families are made by the fixture of the quick solves.
 __all__ = ["generate"]
 FEW, MANY = 200, 100_000
+FEW_PAIRED, MANY_PAIRED, MOST_PAIRED = 60, 10_000, 12
 # Of a larger network so many arcs or nodes are left out in turn, evenly apart.
 ARCS, LEFT_OUT = 1000, 25
-NONE = 0
 NODES = b"--nodes"
-# Says whether an arc of this number is closed without an arc or a node.
-Closed = Callable[[int, int, Arc], bool]
+# What is left out: an arc, a node, or two arcs.
+Numbers = tuple[int, ...]
+# Says whether an arc of this number is closed without these arcs or nodes.
+Closed = Callable[[Numbers, int, Arc], bool]
 
 
-def is_arc(left_out: int, number: int, arc: Arc) -> bool:
-    return number == left_out
+def is_arc(left_out: Numbers, number: int, arc: Arc) -> bool:
+    return number in left_out
 
 
-def is_at_node(left_out: int, number: int, arc: Arc) -> bool:
-    return left_out in (arc.tail, arc.head)
+def is_at_node(left_out: Numbers, number: int, arc: Arc) -> bool:
+    return arc.tail in left_out or arc.head in left_out
 
 
-def value_without(state: State, left_out: int, is_closed: Closed = is_arc) -> int:
-    """The greatest value without this arc or node, by networkx."""
+def value_without(state: State, left_out: Numbers, is_closed: Closed = is_arc) -> int:
+    """The greatest value without these arcs or nodes, by networkx."""
     graph = networkx.DiGraph()
     graph.add_nodes_from(range(1, state.nodes + 1))
     for number, arc in enumerate(state.arcs, 1):
@@ -62,12 +66,12 @@ def judge_rows(problem: bytes, flags: list[bytes], numbers: list[int], is_closed
     so many. All have a line, in order."""
     state = read_problem(problem)
     first, *rows = vital(problem, *flags)
-    assert first == b"c value %d" % value_without(state, NONE)
+    assert first == b"c value %d" % value_without(state, ())
     assert [row.split()[:2] for row in rows] == [[b"v", b"%d" % number] for number in numbers]
     left = {number: int(row.split()[2]) for number, row in zip(numbers, rows)}
     chosen = numbers[:: max(1, len(numbers) // LEFT_OUT)]
     assert {number: left[number] for number in chosen} == {
-        number: value_without(state, number, is_closed) for number in chosen
+        number: value_without(state, (number,), is_closed) for number in chosen
     }
 
 
@@ -90,6 +94,37 @@ def judge(problem: bytes) -> None:
     judge_worst(problem, [NODES])
 
 
+def judge_pairs(problem: bytes) -> None:
+    """Compares the worst pairs of arcs, few and many, with whole solves without both."""
+    state = read_problem(problem)
+    numbers = range(1, len(state.arcs) + 1)
+    rows = sorted((value_without(state, pair), *pair) for pair in combinations(numbers, 2))
+    lines = [b"v %d %d %d" % (first, second, left) for left, first, second in rows]
+    value = b"c value %d" % value_without(state, ())
+    for most in (0, 1, len(lines) // 2, len(lines), len(lines) + 1):
+        worst = vital(problem, b"--pairs", b"--worst", b"%d" % most)
+        assert worst == [value, *lines[:most]], most
+
+
+def shares(count: int, random: Random) -> list[int]:
+    """Capacities whose sum is as large as may be."""
+    marks = sorted(random.randint(0, LARGEST) for _ in range(count - 1))
+    return [high - low for low, high in pairwise([0, *marks, LARGEST])]
+
+
+def small_network(random: Random) -> State:
+    """A network of few arcs, with self loops, parallel arcs and arcs of capacity 0, and with many
+    equal losses, or a sum of capacities that is as large as may be."""
+    nodes, count = random.randint(2, 5), random.randint(1, MOST_PAIRED)
+    highest = random.choice([1, 1, 3, 9])
+    caps = random.choice(
+        [shares(count, random), [random.randint(0, highest) for _ in range(count)]]
+    )
+    arcs = tuple(Arc(random.randint(1, nodes), random.randint(1, nodes), cap) for cap in caps)
+    source, sink = random.sample(range(1, nodes + 1), 2)
+    return State(nodes, source, sink, arcs, (0,) * count)
+
+
 @pytest.mark.seconds(5)
 @pytest.mark.parametrize("family", FAMILIES)
 def test_families(generate: Generate, family: str) -> None:
@@ -109,3 +144,12 @@ def test_random(request: pytest.FixtureRequest) -> None:
         # A few have one node as source and sink.
         with suppress(LineFault):
             judge(problem)
+
+
+@pytest.mark.seconds(5)
+def test_random_pairs(request: pytest.FixtureRequest) -> None:
+    is_long, seed = (request.config.getoption(option) for option in ("--long", "--seed"))
+    for number in range(MANY_PAIRED if is_long else FEW_PAIRED):
+        random = Random(f"pairs {seed}/{number}")
+        with suppress(LineFault):
+            judge_pairs(plain_text(problem_lines(small_network(random), random)))
