@@ -161,14 +161,18 @@ def value_without(state: State, closed: Callable[[int, Arc], bool]) -> int:
     return solved(replace(state, arcs=arcs)).value()
 
 
-def vital(problem: bytes, parts: str, most: int | None) -> Outcome:
-    state = judged(read_problem, bounded(problem))
+def values_without(state: State, parts: str) -> list[tuple[tuple[int, ...], int]]:
+    """The numbers of what is left out in turn, each with the value without."""
     if parts == "nodes":
         inner = sorted(set(range(1, state.nodes + 1)) - {state.source, state.sink})
-        values = [((v,), value_without(state, lambda _, arc: v in arc[:2])) for v in inner]
-    else:
-        chosen = combinations(range(1, len(state.arcs) + 1), 2 if parts == "pairs" else 1)
-        values = [(js, value_without(state, lambda number, _: number in js)) for js in chosen]
+        return [((v,), value_without(state, lambda _, arc: v in arc[:2])) for v in inner]
+    chosen = combinations(range(1, len(state.arcs) + 1), 2 if parts == "pairs" else 1)
+    return [(js, value_without(state, lambda number, _: number in js)) for js in chosen]
+
+
+def vital(problem: bytes, parts: str, most: int | None) -> Outcome:
+    state = judged(read_problem, bounded(problem))
+    values = values_without(state, parts)
     if most is not None:
         values = sorted(values, key=lambda row: (row[1], row[0]))[:most]
     lines = [written("v", *numbers, value) for numbers, value in values]
