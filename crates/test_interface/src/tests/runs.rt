@@ -1,9 +1,9 @@
 //! Runs from bytes to bytes, single command lines, and the program's arguments.
 use dmf_net::Unwatched;
 use dmf_run::{
-    EngineFault, Mode, Parts, SolveReply, Status, WordsFault, read_command, read_words, refusal_text,
-    run_check, run_commands, run_session, run_session_bounded, run_session_watched, run_solve,
-    run_vital, run_vital_nodes, status_of,
+    EngineFault, Mode, Parts, SolveReply, Status, WordsFault, read_command, read_words,
+    refusal_text, run_check, run_commands, run_session, run_session_bounded, run_session_watched,
+    run_solve, run_vital, run_vital_nodes, status_of,
 };
 use dmf_session::{Command, DeltaHistory, Refusal, Session};
 use dmf_text::{StdSink, StdSource, read_problem};
@@ -164,11 +164,7 @@ fn number_of(asked: &Result<Mode, WordsFault>) -> u32 {
             },
         ) => 2,
         Ok(Mode::Check { problem: _ }) => 3,
-        Ok(
-            Mode::Vital {
-                parts: Parts::Arcs,
-            },
-        ) => 4,
+        Ok(Mode::Vital { parts: Parts::Arcs }) => 4,
         Ok(
             Mode::Vital {
                 parts: Parts::WorstNodes(3),
