@@ -59,6 +59,7 @@ REASONS = {
     "run_vital_nodes (one_text)": A_LAW,
     "run_vital_worst (one_text)": A_LAW,
     "run_vital_worst_nodes (one_text)": A_LAW,
+    "run_vital_worst_pairs (one_text)": A_LAW,
     "write_problem (stands)": A_LAW,
     "Side::eq (same)": OF_ITS_ANSWER,
     "Side::ids (ascending)": OF_ITS_ANSWER,

@@ -17,10 +17,10 @@ pub const MAX_HISTORY: u32 = 1_000_000;
 /// The largest number that `--worst` takes.
 pub const MAX_WORST: u32 = 10_000;
 
-/// What is told where pairs are asked for without `--worst`, as clap tells of an argument that is missing.
-const WORST_IS_MISSING: &str = "the following required arguments were not provided:\n  --worst <N>";
+/// What is told where pairs are asked for without `--worst`, in the words of clap.
+const NO_WORST: &str = "the following required arguments were not provided:\n  --worst <N>";
 
-/// What is told where pairs and nodes are asked for, as clap tells of arguments that are in conflict.
+/// What is told where pairs and nodes are asked for, in the words of clap.
 const PAIRS_AND_NODES: &str = "the argument '--nodes' cannot be used with '--pairs'";
 
 /// What is left out of a network in turn.
@@ -354,7 +354,7 @@ fn pairs_of(alloc: Global, nodes: bool, worst: Option<u32>) -> Result<Parts, Wor
     }
     match worst {
         Some(most) => Ok(Parts::WorstPairs(most)),
-        None => Err(refused(alloc, ErrorKind::MissingRequiredArgument, WORST_IS_MISSING)),
+        None => Err(refused(alloc, ErrorKind::MissingRequiredArgument, NO_WORST)),
     }
 }
 
