@@ -5,6 +5,7 @@ process: when it is asked, beside the program, and how a call ends that is broke
 from __future__ import annotations
 
 import threading
+from collections.abc import Callable, Sized
 from random import Random
 from typing import Any
 
@@ -111,7 +112,7 @@ def test_want_of_memory(monkeypatch: pytest.MonkeyPatch, bound: int) -> None:
         assert list(network.vital_nodes().losses) == [3, 3]
 
 
-ASKED = {
+ASKED: dict[Ranked, Callable[[dmf.Network[Any]], Sized]] = {
     Ranked.ARCS: lambda network: network.vital(top=2),
     Ranked.NODES: lambda network: network.vital_nodes(top=2),
     Ranked.PAIRS: lambda network: network.vital_pairs(top=2),

@@ -33,6 +33,8 @@ def changes(network: dmf.Network[str]) -> list[str]:
         print([(arc.tail, left, loss) for arc, left, loss in lost], dmf.vital([], "a", "b").value)
         shut: dmf.VitalNodes[str] = copy.vital_nodes(top=3)
         print([(node.upper(), left, loss) for node, left, loss in shut], shut.nodes[0].upper())
+        both: dmf.VitalPairs[str] = copy.vital_pairs(top=3)
+        print([(one.tail, other.tail, loss) for (one, other), _, loss in both], both.pairs[0])
         for cases in (
             dmf.each_node_shut(),
             dmf.each_capacity_raised(1),

@@ -39,7 +39,7 @@ from .worker_threads import Given, Handle, Job
 # which looks at each arc only a few times. What is lost without each arc takes longer to find, so
 # there the other thread begins at MOST_LOST_AT_ONCE arcs, and for pairs of arcs at
 # MOST_PAIRED_AT_ONCE.
-MOST_AT_ONCE, MOST_LOST_AT_ONCE, MOST_PAIRED_AT_ONCE, MOST_STEPS = 20_000, 1_000, 50, 4
+MOST_AT_ONCE, MOST_LOST_AT_ONCE, MOST_PAIRED_AT_ONCE, MOST_STEPS = 20_000, 1_000, 100, 4
 
 # The commands that calls of the library carry out, each with how many numbers follow its word.
 COMMANDS = {"cap": 2, "add": 3, "close": 1, "shut": 1, "solve": 0, "undo": 1, "redo": 1}
