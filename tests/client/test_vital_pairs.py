@@ -125,6 +125,25 @@ def test_decimals_and_tables(tmp_path: Path) -> None:
                 table.solve()
 
 
+def test_ranked_in_tables(tmp_path: Path) -> None:
+    """What stands for the limit of a place, and for the several sources, costs more than any pipe,
+    and is not told."""
+    path = tmp_path / "pipes.csv"
+    path.write_text("from,to,capacity\nA,M,4\nA,M,2\nB,M,1\nB,M,3\nM,N,5\nM,Y,2\nN,Z,3\nY,Z,2\n")
+    for program in None, BUILT:
+        with dmf.read_table(
+            path, source=["A", "B"], sink="Z", limits={"M": 4, "N": 3}, program=program
+        ) as table:
+            table.solve()
+            arcs = sorted(table.vital(), key=lambda row: -row[2])
+            nodes = sorted(table.vital_nodes(), key=lambda row: -row[2])
+            assert len(arcs) == 8 and [row[0] for row in nodes] == ["M", "N", "Y", "A", "B"]
+            assert max(row[2] for row in arcs) < nodes[0][2] == table.value
+            for top in range(10):
+                assert list(table.vital(top)) == arcs[:top]
+                assert list(table.vital_nodes(top)) == nodes[:top]
+
+
 @pytest.mark.parametrize("seed", range(10))
 def test_ranked_and_sorted(seed: int, monkeypatch: pytest.MonkeyPatch) -> None:
     """The arcs and nodes that are ranked are those of all values, sorted."""

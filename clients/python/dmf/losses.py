@@ -144,14 +144,11 @@ class VitalNodes(Losses[Node], Generic[Node]):
     def of(
         cls, nodes: Mapping[Node, int], finder: Finder, measure: Measure | None, top: int | None
     ) -> VitalNodes[Node]:
-        """Return what is found about these nodes, given with their numbers: about the `top` of them
-        whose loss costs most, if that is given."""
+        """Return what is found about these nodes, given with their numbers, which ascend: about the
+        `top` of them whose loss costs most, if that is given."""
         most, by_number = _most(top, cls._word), {number: node for node, number in nodes.items()}
         unseen = finder.node_count - 2 - len(nodes)
-        # Of equal losses that with the smaller number is ranked first, which has to be the first
-        # node too.
-        in_order = [*by_number] == sorted(by_number)
-        if most is not None and most + unseen <= MOST_RANKED and in_order:
+        if most is not None and most + unseen <= MOST_RANKED:
             found = finder.worst_without(Ranked.NODES, most + unseen)
             return cls(*_shown(measure, found.value, *_seen(found, by_number.get, most)))
         value, without = finder.values_without(Part.NODE)
