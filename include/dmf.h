@@ -244,11 +244,11 @@ enum dmf_status dmf_session_pair_losses(const dmf_session *session, const uint32
                                         const uint32_t *seconds, size_t second_count,
                                         uint64_t *losses, size_t loss_count);
 
-/* The arcs, the nodes besides the source and the sink, or the pairs of arcs whose loss is greatest, the greatest first. Equal
- * losses go by the number; pairs have firsts[k] < seconds[k], and go by firsts[k], and then by seconds[k]. The lengths
- * must be the same, or the answer is DMF_BAD_LENGTH, whatever the flow is. DMF_NOT_GREATEST as above. *found becomes how many
- * elements of each array are written, from index 0 on: all, or as many arcs, nodes or pairs as there are. The other elements
- * are unchanged. A short list is faster than the losses of all. */
+/* The arcs, the nodes other than the source and the sink, or the pairs of arcs whose loss is greatest, the greatest first.
+ * Equal losses are in the order of the numbers; pairs have firsts[k] < seconds[k], and are in the order of firsts[k], then of
+ * seconds[k]. The lengths must be the same, or the answer is DMF_BAD_LENGTH, whatever the flow is. DMF_NOT_GREATEST as above.
+ * *found becomes how many elements of each array are written, from index 0 on: all, or as many as there are arcs, nodes or
+ * pairs. The other elements are unchanged. A short list takes less time than a long one. */
 enum dmf_status dmf_session_worst_arcs(const dmf_session *session, uint32_t *arcs, size_t arc_count,
                                        uint64_t *losses, size_t loss_count, size_t *found);
 enum dmf_status dmf_session_worst_nodes(const dmf_session *session, uint32_t *nodes, size_t node_count,

@@ -388,7 +388,7 @@ public:
         return found;
     }
 
-    /// Writes the nodes besides the source and the sink whose loss is greatest, as worst_arcs() writes arcs.
+    /// Writes the nodes other than the source and the sink whose loss is greatest, as worst_arcs() writes arcs.
     std::size_t worst_nodes(span<std::uint32_t> nodes, span<std::uint64_t> losses) const {
         std::size_t found = 0;
         detail::expect_ok(dmf_session_worst_nodes(live(), nodes.data(), nodes.size(), losses.data(), losses.size(), &found));

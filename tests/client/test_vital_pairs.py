@@ -6,6 +6,7 @@ from __future__ import annotations
 
 from decimal import Decimal
 from itertools import combinations
+from operator import itemgetter
 from pathlib import Path
 from random import Random
 from typing import Any
@@ -135,8 +136,8 @@ def test_ranked_in_tables(tmp_path: Path) -> None:
             path, source=["A", "B"], sink="Z", limits={"M": 4, "N": 3}, program=program
         ) as table:
             table.solve()
-            arcs = sorted(table.vital(), key=lambda row: -row[2])
-            nodes = sorted(table.vital_nodes(), key=lambda row: -row[2])
+            arcs = sorted(table.vital(), key=itemgetter(1))
+            nodes = sorted(table.vital_nodes(), key=itemgetter(1))
             assert len(arcs) == 8 and [row[0] for row in nodes] == ["M", "N", "Y", "A", "B"]
             assert max(row[2] for row in arcs) < nodes[0][2] == table.value
             for top in range(10):

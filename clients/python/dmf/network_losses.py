@@ -100,16 +100,17 @@ class VitalNetwork(ChangeableNetwork[Node]):
     def vital_pairs(self, top: int = 20) -> VitalPairs[Node]:
         """Find the pairs of arcs that cost most to lose together.
 
-        A loss can be more than that of either arc, and more than both together. The network is
-        read as for `vital`, and the same finds them; it takes longer, but far less time than to
-        close each pair and solve.
+        Two arcs can cost more together than their two losses added up, since each may stand in for
+        the other. The network is read as for `vital`, and the session or the program finds the
+        pairs as it does there. That takes longer than `vital`, but far less time than closing each
+        pair and solving.
 
         Parameters
         ----------
         top
-            How many pairs are returned: those whose loss costs most, the greatest loss first. Of
-            equal losses the pair with the first arc that comes first is before others, and then
-            that with the first second arc. At most 10,000 if a program finds them.
+            How many pairs are returned: those whose loss costs most, the greatest loss first.
+            Pairs with equal losses are in the order of their first arcs, and then of their second
+            arcs.
 
         Returns
         -------
@@ -120,7 +121,7 @@ class VitalNetwork(ChangeableNetwork[Node]):
         Raises
         ------
         NumberTooLarge
-            If a program is needed, which ranks fewer pairs.
+            If a program is needed, and it would have to rank more than 10,000 pairs.
         Error
             What `vital` raises.
 
