@@ -5,6 +5,7 @@ from __future__ import annotations
 import json
 import shutil
 from pathlib import Path
+from random import Random
 from typing import Any
 from urllib.parse import quote
 from xml.etree import ElementTree
@@ -200,6 +201,22 @@ def test_fits_the_window(form: int) -> None:
         it.do(what="close", arc=3)
         again = [ovals(it.told(f"picture?near=&form={one}")["svg"]) for one in (form, turned)]
         assert again == [found, elsewhere]
+
+
+@pytest.mark.parametrize("form", [70, 140])
+def test_many_fit_the_window(tmp_path: Path, form: int) -> None:
+    """Places that would be a long strip in layers are spread out in the form of the window."""
+    chance = Random(7)
+    pipes = [(chance.randrange(max(0, at - 9), at), at) for at in range(1, 150)]
+    pipes += [(at, at + chance.randrange(2, 6)) for at in chance.sample(range(140), 60)]
+    table = tmp_path / "town.csv"
+    table.write_text(
+        "from,to,litres\n" + "".join(f"Old Town {one},Old Town {two},5\n" for one, two in pipes)
+    )
+    with board("--source", "Old Town 0", "--sink", "Old Town 149", str(table)) as it:
+        svg = it.told(f"picture?near=&form={form}")["svg"]
+    _, _, wide, high = map(float, (ElementTree.fromstring(svg).get("viewBox") or "").split())
+    assert 1 / 1.3 < wide / high / (form / 100) < 1.3
 
 
 def test_one_form_if_kept(tmp_path: Path) -> None:

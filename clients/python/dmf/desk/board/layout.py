@@ -135,7 +135,8 @@ class Places:
             found, drawn = _layered(text, self.form)
         if MOST_LAYERED < len(new) <= MOST_TRIED and _misfit(found, self.form) > MOST_LONG:
             found, drawn = Places(spread_out(text, ways, self.form)), ""
-        elif _misfit(found, self.form) > FITS:
+        # What was spread out is longer again where places that overlapped were moved apart.
+        if _misfit(found, self.form) > FITS:
             found, drawn = Places(_stretched(found.spots, self.form)), ""
         right = max((spot.x for spot in self.spots.values()), default=-APART)
         left = min((spot.x for spot in found.spots.values()), default=0.0)
