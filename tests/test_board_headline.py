@@ -9,7 +9,7 @@ from typing import Any
 import pytest
 from board_pages import Page
 from board_running import board
-from desk_shared import PIPES
+from desk_shared import PIPES, ROOT
 from test_board_access import as_before, judge_names, show
 
 pytestmark = pytest.mark.seconds(20)
@@ -118,6 +118,18 @@ def test_all_that_is_short(driver: Any, tmp_path: Path) -> None:
         assert rows == wanted
         page.press(PLACES[2])
         page.wait(lambda: page.text("#what h3") == PLACES[2])
+        as_before(driver)
+
+
+def test_a_roster(driver: Any) -> None:
+    """Of a roster it says how much can be staffed."""
+    rota = str(ROOT / "examples/rota/rota.csv")
+    with board(rota, "--shift", "8", "--daily", "1") as it:
+        show(driver, 400, "light")
+        page = Page(driver, it.address)
+        judge_head(page, 400)
+        said = " ".join(page.text("header").split())
+        assert said.startswith("rota.csv 120 of 128 hours can be staffed, and not more. Short:")
         as_before(driver)
 
 

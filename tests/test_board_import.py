@@ -267,7 +267,7 @@ def test_roster(tmp_path: Path) -> None:
         view = said(it, shift="12")
         assert [word for word, _ in view["question"]["choices"]] == ["1", "all"]
         view = said(it, shift="12", daily="1")
-        assert view["answer"]["said"].startswith("24 hours can be sent from Anna and Ben to")
+        assert view["answer"]["said"].startswith("24 hours can be staffed")
         assert view["command"] == "dmf board rota.csv --shift 12 --daily 1"
         (fault,) = said(it, shift="12", daily="0")["faults"]
         assert "daily" in fault["text"]

@@ -24,6 +24,7 @@ from ..steps import unforeseen
 from ..workspace import Desk
 from .import_options import SHEET
 from .responses import Json
+from .views import told_task
 
 # How many places a page may propose, and how many answers to a question.
 MOST_PLACES, MOST_CHOICES = 2_000, 50
@@ -247,8 +248,6 @@ def answer_view(reading: Reading) -> Optional[Json]:
         return None
     network = reading.desk.network
     unit = network.measure.told_unit
-    said = (
-        f"{plain_text(reading.desk.value)}{f' {unit}' if unit else ''} can be sent from "
-        f"{network.told_source} to {network.told_sink}"
-    )
+    value = f"{plain_text(reading.desk.value)}{f' {unit}' if unit else ''}"
+    said = f"{value} {told_task(reading.desk)}"
     return {"said": said, "rows": len(network.pictured())}

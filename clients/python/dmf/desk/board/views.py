@@ -9,6 +9,7 @@ from decimal import Decimal
 
 from ...quantity import EXACT, Quantity, magnitude, moved, plain_text
 from ...session.base import Part, ValuesWithout
+from ...tables.roster_words import is_of_roster
 from ...text.spelling import cleaned
 from ...text.table_comments import DEMAND
 from ..analysis import cheapest, priced, prices
@@ -97,9 +98,17 @@ def scenarios_view(desk: Desk) -> Json:
 MOST_LISTED, MOST_SIDE = 300, 30
 
 
-def state_view(desk: Desk, offer: str = "") -> Json:
-    """Return what the page shows beside the picture and the table. `offer` is in which file a
-    project can be made."""
+def told_task(desk: Desk) -> str:
+    """Return what the value says: how much can be sent from where to where, or be staffed."""
+    network = desk.network
+    if is_of_roster(network.subject.notes):
+        return "can be staffed"
+    return f"can be sent from {network.told_source} to {network.told_sink}"
+
+
+def state_view(desk: Desk, task: str, offer: str = "") -> Json:
+    """Return what the page shows beside the picture and the table. `task` says what the value is,
+    and `offer` in which file a project can be made."""
     network = desk.network
     names = network.names
     limit, steps, value = desk.limit(), desk.steps, desk.value
@@ -112,6 +121,7 @@ def state_view(desk: Desk, offer: str = "") -> Json:
         "source": network.told_source,
         "sink": network.told_sink,
         "value": plain_text(value),
+        "task": task,
         "arcs": len(network.pictured()),
         # After an undo, the numbers after these are given to other arcs.
         "given": network.first_count,

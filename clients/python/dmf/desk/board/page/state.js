@@ -10,8 +10,8 @@
  *   open: boolean, side: boolean, entering: Arc[], leaving: Arc[], more: [number, number], without: string, lost: string }} Place
  *   `more`: how many other arcs enter it, and leave it
  * @typedef {{ turn: number, title: string, unit: string, noun: string, notes: string[], source: string, sink: string, value: string,
- *   arcs: number, given: number, places: number, kept_in: string, scenario: string, why_not: string, floor: number, offer: string,
- *   flows_follow: boolean, at: number, by: string,
+ *   task: string, arcs: number, given: number, places: number, kept_in: string, scenario: string, why_not: string, floor: number,
+ *   offer: string, flows_follow: boolean, at: number, by: string,
  *   steps: { text: string, value: string, by: string }[], limit: Arc[], limit_count: number, side: string[], side_count: number,
  *   demands: string, asked: string, short: Short[], short_count: number, names: string[], parts?: Record<string, any> }} State
  * @typedef {{ node: number, name: string, flow: string, limit: string, missing: string }} Short a place that gets less than it asks for

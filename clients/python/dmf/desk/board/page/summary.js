@@ -13,8 +13,8 @@ const MOST_SHORT = 3;
 
 /** @param {State} state */
 function showValue(state) {
-  const asked = state.asked && ` of ${state.asked}`, ends = `from ${state.source} to ${state.sink}`;
-  at("value").replaceChildren(make("strong", state.value), `${asked}${units()} can be sent ${ends}, and not more.`);
+  const asked = state.asked && ` of ${state.asked}`;
+  at("value").replaceChildren(make("strong", state.value), `${asked}${units()} ${state.task}, and not more.`);
   at("value").title = at("value").textContent ?? "";
   at("since").hidden = !state.at;
   const [by, rest] = state.by === "no change" ? ["as much", " as at the beginning"] : [state.by, " than at the beginning"];
