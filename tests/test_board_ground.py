@@ -196,7 +196,7 @@ def test_drawn(driver: Any, tmp_path: Path, request: pytest.FixtureRequest, side
                     {"features": [{"name": "prefers-color-scheme", "value": scheme}]},
                 )
                 page = Page(driver, it.address)
-                assert f"All {len(ground['tails'])} are drawn" in page.text("#drawn-note")
+                assert f"All {len(ground['tails']):,} are drawn" in page.text("#drawn-note")
                 judge_drawn(page, it, ground, LIMIT[scheme])
                 judge_walk(page, ground)
         driver.execute_cdp_cmd("Emulation.clearDeviceMetricsOverride", {})

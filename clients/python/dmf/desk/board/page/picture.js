@@ -23,6 +23,7 @@ import { formOf, freePart } from "./room.js";
 import { ask, present } from "./state.js";
 import { now as shown, put } from "./store.js";
 import { beginView, fit, isFitted, scale, see, seenBox, zoom } from "./view.js";
+import { grouped } from "./words.js";
 
 /** The factor by which a button or a key enlarges it. */
 export const LARGER = 1.4;
@@ -89,8 +90,8 @@ async function showTold(told, turn) {
     canLayOut: told.can_lay_out, canDrawAll: told.can_draw_all, moved: told.moved });
   count = told.arcs.length;
   const where = near && theChoice()?.node ? "the chosen place" : near ? "a place" : "the bottleneck";
-  const part = isGround() ? `All ${present().arcs} are drawn. Move in to read their names and numbers. `
-    : isPart() ? `${count} of ${present().arcs}: what lies nearest to ${where}. ` : "";
+  const part = isGround() ? `All ${grouped(present().arcs)} are drawn. Move in to read their names and numbers. `
+    : isPart() ? `${count} of ${grouped(present().arcs)}: what lies nearest to ${where}. ` : "";
   at("drawn-note").classList.toggle("reason", Boolean(told.reason));
   at("drawn-note").textContent = told.reason ? `${told.reason}.` : part;
   at("near-limit").hidden = !near;
