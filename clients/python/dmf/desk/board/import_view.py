@@ -24,7 +24,7 @@ from ..steps import unforeseen
 from ..workspace import Desk
 from .import_options import SHEET
 from .responses import Json
-from .views import told_task
+from .views import words_view
 
 # How many places a page may propose, and how many answers to a question.
 MOST_PLACES, MOST_CHOICES = 2_000, 50
@@ -249,5 +249,5 @@ def answer_view(reading: Reading) -> Optional[Json]:
     network = reading.desk.network
     unit = network.measure.told_unit
     value = f"{plain_text(reading.desk.value)}{f' {unit}' if unit else ''}"
-    said = f"{value} {told_task(reading.desk)}"
+    said = f"{value} {words_view(reading.desk)['task']}"
     return {"said": said, "rows": len(network.pictured())}

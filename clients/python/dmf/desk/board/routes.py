@@ -233,7 +233,7 @@ class Board:
         return found
 
     def state(self) -> Json:
-        return state_view(self.desk, self.shown.task, self._offer)
+        return state_view(self.desk, self.shown.words, self._offer)
 
     @contextlib.contextmanager
     def _stoppable(self) -> Iterator[None]:

@@ -16,7 +16,7 @@ from .positions import Placement
 from .responses import Json, Response, whole
 from .second_sweeps import SecondSweeps
 from .selection import ArcList, Nearby
-from .views import arc_views, kept_view, second_view, told_task, worth_view
+from .views import arc_views, kept_view, second_view, words_view, worth_view
 from .worth_finder import WorthFinder
 
 # The most arcs that are laid out together, which takes some seconds.
@@ -33,7 +33,7 @@ class Shown:
         """Take the spots of a map, or what another placement has. Raises what `Placement`
         raises."""
         self.desk = desk
-        self.task = told_task(desk)
+        self.words = words_view(desk)
         self.placement = Placement(desk, spots, before)
         self.beginning = Beginning(desk)
         self.looks = Looks(desk, self.beginning)

@@ -9,7 +9,6 @@ from decimal import Decimal
 
 from ...quantity import EXACT, Quantity, magnitude, moved, plain_text
 from ...session.base import Part, ValuesWithout
-from ...tables.roster_words import is_of_roster
 from ...text.spelling import cleaned
 from ...text.table_comments import DEMAND
 from ..analysis import cheapest, priced, prices
@@ -18,6 +17,7 @@ from ..expressions import amount, successors
 from ..pipes import TwoWayPipe, other_way, way_sign
 from ..project.scenarios import Scenarios
 from ..steps import Second
+from ..subject_words import words_of
 from ..workspace import Desk
 from ..worth import left_without, losses, worst, worst_places
 from .responses import Json, whole
@@ -98,17 +98,32 @@ def scenarios_view(desk: Desk) -> Json:
 MOST_LISTED, MOST_SIDE = 300, 30
 
 
-def told_task(desk: Desk) -> str:
-    """Return what the value says: how much can be sent from where to where, or be staffed."""
+def words_view(desk: Desk) -> Json:
+    """Return the words that a page has for this network, in which no step changes anything. What
+    is in the bottleneck, `crosses`, leaves in braces what differs from state to state."""
     network = desk.network
-    if is_of_roster(network.subject.notes):
-        return "can be staffed"
-    return f"can be sent from {network.told_source} to {network.told_sink}"
+    words = words_of(network.subject.notes)
+    noun, unit = network.subject.noun or "connection", network.measure.told_unit
+    filled = {
+        "source": network.told_source,
+        "sink": network.told_sink,
+        "arc": noun,
+        "unit": f" {unit}" if unit else "",
+    }
+    return {
+        **{name: text.format(**filled) for name, text in words.page._asdict().items()},
+        "arc": noun,
+        "severed": words.severed.format(**filled),
+        "crosses": words.crosses,
+        "crosses_one": words.crosses_one,
+        "carries": words.carries,
+        "demand_titles": words.demand_titles,
+    }
 
 
-def state_view(desk: Desk, task: str, offer: str = "") -> Json:
-    """Return what the page shows beside the picture and the table. `task` says what the value is,
-    and `offer` in which file a project can be made."""
+def state_view(desk: Desk, words: Json, offer: str = "") -> Json:
+    """Return what the page shows beside the picture and the table, in these words. `offer` is in
+    which file a project can be made."""
     network = desk.network
     names = network.names
     limit, steps, value = desk.limit(), desk.steps, desk.value
@@ -116,12 +131,11 @@ def state_view(desk: Desk, task: str, offer: str = "") -> Json:
     return {
         "title": network.subject.path,
         "unit": network.measure.told_unit,
-        "noun": network.subject.noun,
         "notes": list(network.subject.notes),
         "source": network.told_source,
         "sink": network.told_sink,
         "value": plain_text(value),
-        "task": task,
+        "words": words,
         "arcs": len(network.pictured()),
         # After an undo, the numbers after these are given to other arcs.
         "given": network.first_count,

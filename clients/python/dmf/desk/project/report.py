@@ -16,7 +16,6 @@ from pathlib import Path
 from ...quantity import EXACT, magnitude
 from ...session import executable
 from ...session.base import Program
-from ...tables.roster_words import is_of_roster
 from ...text.lexical import display
 from ...text.table_comments import DEMAND
 from ..analysis import seconds_of
@@ -24,6 +23,7 @@ from ..answers import LARGE
 from ..demands import limited_amounts
 from ..export import problem, taken
 from ..steps import DeskFault
+from ..subject_words import words_of
 from ..workspace import Desk
 from ..worth import Loss, worst, worst_places
 from .comparison import ArcDifference, compare
@@ -189,7 +189,7 @@ def findings(desk: Desk) -> Findings:
         names.terminal(network.sink),
         len(network.sources),
         len(network.sinks),
-        is_of_roster(subject.notes),
+        words_of(subject.notes),
         _table_arcs(desk),
         len(names.places),
         tuple(assumed),

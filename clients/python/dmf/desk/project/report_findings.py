@@ -6,6 +6,7 @@ from dataclasses import dataclass
 from typing import NamedTuple
 
 from ...quantity import Quantity
+from ..subject_words import Words
 from .comparison import ArcDifference
 
 
@@ -83,7 +84,7 @@ class Findings:
     sink: str
     sources: int
     sinks: int
-    is_roster: bool
+    words: Words
     arcs: int
     places: int
     assumed: tuple[str, ...]

@@ -13,7 +13,6 @@ from ...quantity import EXACT, Quantity, moved, plain_text
 from ...text.lexical import display
 from .comparison import BOTTLENECK, ArcDifference
 from .report_findings import Demand, Findings, Section, Worst
-from .report_words import NETWORK, ROSTER, Words
 from .scenarios import BASE
 
 # The most rows of a table, and the most places in a sentence.
@@ -57,10 +56,6 @@ def _counted(count: int, noun: str) -> str:
     return f"{count} {noun}{'s' * (count != 1)}"
 
 
-def _words(found: Findings) -> Words:
-    return ROSTER if found.is_roster else NETWORK
-
-
 def _filled(sentence: str, found: Findings, **more: object) -> str:
     """Return a sentence of the report with what was found."""
     people = f"{found.sources} {'person' if found.sources == 1 else 'people'}"
@@ -77,7 +72,7 @@ def _filled(sentence: str, found: Findings, **more: object) -> str:
 
 
 def _head(found: Findings) -> Iterator[str]:
-    words = _words(found)
+    words = found.words
     yield f"<h1>{_text(found.title)}: {_filled(words.question, found)}</h1>"
     unit = f", in {_text(found.unit)}" if found.unit else ""
     yield (
@@ -165,7 +160,7 @@ def _steps(steps: tuple[tuple[str, Quantity], ...], unit: str) -> Iterator[str]:
 
 def _limit(found: Findings, it: Section) -> Iterator[str]:
     """Yield the limit in plain words."""
-    words = _words(found)
+    words = found.words
     yield "<h3>The bottleneck</h3>"
     if not it.limit:
         yield f"<p>{_filled(words.severed, found)}</p>"
@@ -185,7 +180,7 @@ def _limit(found: Findings, it: Section) -> Iterator[str]:
 
 def _demands(demands: tuple[Demand, ...], found: Findings) -> Iterator[str]:
     """Yield which places get what they take, those that are short of most first."""
-    words, unit = _words(found), found.unit
+    words, unit = found.words, found.unit
     short = [it for it in demands if it.arrives < it.wanted]
     count, noun = len(demands), words.demand
     met = (
@@ -237,7 +232,7 @@ def _columns(found: Findings) -> Iterator[_Column]:
         none = "Closed alone, none costs anything."
         yield _Column("closed", "loses", arcs, EXACT.subtract, none)
         none = "Shut alone, no place costs anything."
-        yield _Column(_words(found).shut, "loses", places, EXACT.subtract, none)
+        yield _Column(found.words.shut, "loses", places, EXACT.subtract, none)
     none = "A second one beside any of them brings nothing."
     gains = Worst(tried.gains, 0)
     yield _Column("with a second one beside it", "gains", gains, EXACT.add, none)
@@ -245,7 +240,7 @@ def _columns(found: Findings) -> Iterator[_Column]:
 
 def _reckoned(found: Findings) -> Iterator[str]:
     """Yield how the values of the tables were reckoned, and of what."""
-    tried, words = found.tried, _words(found)
+    tried, words = found.tried, found.words
     losses, noun = tried.losses, _text(words.arc or found.noun)
     if losses:
         yield (

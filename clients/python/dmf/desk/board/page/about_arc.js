@@ -7,7 +7,7 @@ import { canTry, findSeconds } from "./bottleneck.js";
 import { choose } from "./choice.js";
 import { button, make } from "./elements.js";
 import { amounts, chips, facts, inUnits, setting } from "./facts.js";
-import { act, caption } from "./state.js";
+import { act, caption, wording } from "./state.js";
 import { now } from "./store.js";
 import { leftWithout } from "./worth.js";
 
@@ -59,9 +59,10 @@ function part(arc) {
  * @param {Arc} arc
  */
 function capacities(arc) {
-  const words = arc.way ? "What it can carry each way" : "What it can carry";
-  if (!arc.there) return setting(arc, "capacity", [{ words: inUnits(words), value: arc.capacity, as: "capacity" }]);
-  return setting(arc, "capacity", [{ words: inUnits(`What it can carry to ${arc.head}`), value: arc.there, as: "capacity" },
+  const { amount } = wording();
+  const words = inUnits(amount + (arc.way ? " each way" : ""));
+  if (!arc.there) return setting(arc, "capacity", [{ words, value: arc.capacity, as: "capacity" }]);
+  return setting(arc, "capacity", [{ words: inUnits(`${amount} to ${arc.head}`), value: arc.there, as: "capacity" },
     { words: `and to ${arc.tail} `, value: arc.back, as: "back" }], "cap-ways");
 }
 
@@ -73,13 +74,13 @@ export function aboutArc(arc) {
   const about = [make("h3", arc.short), ends(arc)];
   if (arc.closed) {
     const again = button("Open it again", () => act({ what: "open", arc: arc.number }, `${arc.short} is open`), "plain");
-    return [...about, chips([["closed"]]), facts([{ term: "Flow", value: "0", act: again }])];
+    return [...about, chips([["closed"]]), facts([{ term: wording().flow, value: "0", act: again }])];
   }
-  const nothing = arc.flow === "0" && "nothing flows";
+  const nothing = arc.flow === "0" && wording().idle;
   const close = button("Close it", () => act({ what: "close", arc: arc.number }, `${arc.short} is closed`), "plain");
   const double = button("Put a second one beside it", () => act({ what: "double", arc: arc.number }, `a second ${arc.short}`), "plain");
   return [...about, chips([[arc.limit && "bottleneck", "limit"], [arc.full && "full"], [nothing]]), part(arc), facts([
-    { term: "Flow", value: amounts(arc) + wayOf(arc) },
+    { term: wording().flow, value: amounts(arc) + wayOf(arc) },
     ...(arc.other_way ? [{ term: "The other way", value: arc.other_way }] : []),
     { term: "Closing this", value: leftWithout(arc), id: "closing", act: close },
     { term: "A second one", value: secondOne(arc), id: "second", act: double },

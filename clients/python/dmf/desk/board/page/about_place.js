@@ -32,9 +32,9 @@ function pipes(place, title, arcs, more) {
 
 /** @param {Place} place */
 function marks(place) {
-  const { source, sink, short } = present();
-  const end = place.is_source ? (place.name === source ? "the source" : "a source")
-    : place.is_sink && (place.name === sink ? "the sink" : "a sink");
+  const { source, sink, short, words } = present();
+  const end = place.is_source ? `${place.name === source ? "the" : "a"} ${words.source}`
+    : place.is_sink && `${place.name === sink ? "the" : "a"} ${words.sink}`;
   const missing = short.find((it) => it.node === place.node)?.missing;
   return chips([[end], [place.shut && "shut"], [missing ? `${missing} short` : false, "limit"],
     [place.roles.some((role) => role.limit && !role.closed) && "bottleneck", "limit"]]);

@@ -6,7 +6,7 @@
  */
 import { pick } from "./choice.js";
 import { at, fill, numberCell, onClick } from "./elements.js";
-import { ask, caption, noun, present, units } from "./state.js";
+import { ask, caption, noun, present, units, wording } from "./state.js";
 import { now, put, watch } from "./store.js";
 import { grouped, listed, upper } from "./words.js";
 
@@ -16,9 +16,9 @@ import { grouped, listed, upper } from "./words.js";
  */
 export function showBottleneck(state) {
   const rest = state.limit_count - state.limit.length;
-  at("limit-note").textContent = (state.limit_count
-    ? `Whatever way is taken, it leads over one of these, and together they carry ${state.value}${units()}. `
-    : `Nothing leads from ${state.source} to ${state.sink} any more. `) + `Before them: ${listed(state.side, state.side_count)}.`
+  const { crosses, crosses_one: one, severed } = state.words, said = state.limit_count > 1 ? crosses : state.limit_count ? one : severed;
+  const filled = said.replace("{count}", grouped(state.limit_count)).replace("{value}", `${state.value}${units()}`);
+  at("limit-note").textContent = `${filled} Before ${state.limit_count === 1 ? "it" : "them"}: ${listed(state.side, state.side_count)}.`
     + (rest ? ` The first ${state.limit.length} of ${grouped(state.limit_count)}:` : "");
   if (now.seconds && now.seconds.turn !== state.turn) put("seconds", null);
   else show(now.seconds);
@@ -33,7 +33,7 @@ function show(seconds) {
   at("seconds").hidden = !limit.length;
   at("seconds").textContent = seconds && !seconds.isOver ? "Stop" : "What would a second one bring?";
   at("seconds-told").textContent = seconds ? verdict(seconds, limit.length) : "";
-  fill("limit-table", caption(), [upper(noun()), "carries", ...(seconds ? ["a second one brings"] : [])], limit.map((arc) => [
+  fill("limit-table", caption(), [upper(noun()), wording().carries, ...(seconds ? ["a second one brings"] : [])], limit.map((arc) => [
     pick(arc), numberCell(arc.capacity), ...(seconds ? [numberCell(brings(seconds.found.get(arc.number)))] : [])]));
 }
 

@@ -6,7 +6,7 @@ import { aboutArc, secondOne } from "./about_arc.js";
 import { aboutPlace } from "./about_place.js";
 import { choose, theChoice } from "./choice.js";
 import { at, make, replace } from "./elements.js";
-import { ask, noun } from "./state.js";
+import { ask, wording } from "./state.js";
 import { leftWithout } from "./worth.js";
 
 /**
@@ -19,7 +19,7 @@ export async function showChosen() {
   const chosen = theChoice();
   if (!chosen) {
     arc = null;
-    replace(at("what"), [make("p", `Click a ${noun()} or a place in the picture, or find one by its name.`)]);
+    replace(at("what"), [make("p", wording().choose)]);
     return;
   }
   // An arc that was added may no longer exist.

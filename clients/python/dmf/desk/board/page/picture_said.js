@@ -10,6 +10,6 @@ import { listed } from "./words.js";
 export function sayPicture(state) {
   const limit = listed(state.limit.map((arc) => arc.short), state.limit_count);
   const step = state.at ? ` Last step: ${state.steps[state.at].text}, ${state.steps[state.at].by}.` : "";
-  at("picture-said").textContent = `${state.value}${units()} flow from ${state.source} to ${state.sink}, over ${state.arcs} ${noun()}s. `
+  at("picture-said").textContent = `${state.value}${units()} ${state.words.picture}, over ${state.arcs} ${noun()}s. `
     + `The bottleneck: ${limit}.${step}`;
 }

@@ -9,8 +9,12 @@
  * @typedef {{ node: number, name: string, in: string, out: string, roles: Arc[], is_source: boolean, is_sink: boolean, shut: boolean,
  *   open: boolean, side: boolean, entering: Arc[], leaving: Arc[], more: [number, number], without: string, lost: string }} Place
  *   `more`: how many other arcs enter it, and leave it
- * @typedef {{ turn: number, title: string, unit: string, noun: string, notes: string[], source: string, sink: string, value: string,
- *   task: string, arcs: number, given: number, places: number, kept_in: string, scenario: string, why_not: string, floor: number,
+ * @typedef {{ arc: string, task: string, picture: string, choose: string, short: string, met: string, source: string, sink: string,
+ *   place: string, without: string, flow: string, idle: string, amount: string, legend: string, severed: string, crosses: string,
+ *   crosses_one: string, carries: string, demand_titles: string[] }} Words the words for this network: of pipes and places, or of a
+ *   roster's people and shifts
+ * @typedef {{ turn: number, title: string, unit: string, words: Words, notes: string[], source: string, sink: string, value: string,
+ *   arcs: number, given: number, places: number, kept_in: string, scenario: string, why_not: string, floor: number,
  *   offer: string, flows_follow: boolean, at: number, by: string,
  *   steps: { text: string, value: string, by: string }[], limit: Arc[], limit_count: number, side: string[], side_count: number,
  *   demands: string, asked: string, short: Short[], short_count: number, names: string[], parts?: Record<string, any> }} State
@@ -49,7 +53,8 @@ export function present() {
   return state;
 }
 
-export const noun = () => state?.noun || "connection";
+export const wording = () => present().words;
+export const noun = () => wording().arc;
 export const units = () => (state?.unit ? ` ${state.unit}` : "");
 export const caption = () => state?.unit && `in ${state.unit}` || "";
 

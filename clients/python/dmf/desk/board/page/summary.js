@@ -14,7 +14,7 @@ const MOST_SHORT = 3;
 /** @param {State} state */
 function showValue(state) {
   const asked = state.asked && ` of ${state.asked}`;
-  at("value").replaceChildren(make("strong", state.value), `${asked}${units()} ${state.task}, and not more.`);
+  at("value").replaceChildren(make("strong", state.value), `${asked}${units()} ${state.words.task}, and not more.`);
   at("value").title = at("value").textContent ?? "";
   at("since").hidden = !state.at;
   const [by, rest] = state.by === "no change" ? ["as much", " as at the beginning"] : [state.by, " than at the beginning"];
@@ -26,9 +26,11 @@ function showValue(state) {
 function showShort(state) {
   const names = state.short.slice(0, MOST_SHORT).map((it) => `${it.name} ${it.missing}`);
   at("demands").hidden = !state.demands;
-  at("demands").textContent = names.length ? `Short: ${listed(names, state.short_count)}` : `${upper(state.demands)}.`;
+  at("demands").textContent = names.length ? `Short: ${listed(names, state.short_count)}` : state.words.met;
   at("short").hidden = !names.length;
-  fill("short-table", caption(), ["Place", "arrives", "short"], state.short.map((it) => [
+  at("short-head").textContent = state.words.short;
+  const [place, , gets] = state.words.demand_titles;
+  fill("short-table", caption(), [upper(place), gets, "short"], state.short.map((it) => [
     pickPlace(it), numberCell(`${it.flow} of ${it.limit}`), numberCell(it.missing)]));
 }
 
@@ -44,7 +46,7 @@ export function showSummary(state) {
   // The bottleneck may also contain what a place gives, takes or lets through.
   const word = state.limit.some((arc) => arc.node) ? "part" : noun();
   at("show-limit").textContent = `Bottleneck: ${grouped(state.limit_count)} ${word}${state.limit_count === 1 ? "" : "s"}`;
-  at("legend").textContent = `45/60: 45${units()} flow where 60 fit`;
+  at("legend").textContent = state.words.legend;
   at("notes").hidden = !state.notes.length;
   at("notes").lastElementChild?.replaceChildren(...state.notes.map((note) => make("li", note)));
   replaceAlike(at("places"), state.names.map((name) => make("option", [], { value: name })));

@@ -10,7 +10,7 @@
 import { pick, pickPlace } from "./choice.js";
 import { at, fill, numberCell } from "./elements.js";
 import { colourByLoss } from "./legend.js";
-import { ask, caption, noun, present, units } from "./state.js";
+import { ask, caption, noun, present, units, wording } from "./state.js";
 import { grouped, upper } from "./words.js";
 
 /** The first and the longest pause before the board is asked again, in milliseconds. */
@@ -64,7 +64,7 @@ function show(told) {
   at("worst").hidden = !told.is_known;
   showTable("worst", noun(), "one of these is closed", told.more, told.worst.map((arc) => ({ ...arc, cell: pick(arc) })));
   const { worst, more } = told.places;
-  showTable("worst-places", "place", "one of these places is shut", more, worst.map((place) => ({ ...place, cell: pickPlace(place) })));
+  showTable("worst-places", wording().place, wording().without, more, worst.map((place) => ({ ...place, cell: pickPlace(place) })));
 }
 
 /**

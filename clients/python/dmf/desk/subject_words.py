@@ -1,0 +1,126 @@
+"""The words of a report and of a page: those of a network, in which something is sent from place
+to place, and those of a roster, in which people take shifts."""
+
+from __future__ import annotations
+
+from collections.abc import Iterable
+from typing import NamedTuple
+
+from ..tables.roster_words import is_of_roster
+
+
+class PageWords(NamedTuple):
+    """The sentences and titles that only a page has. `task` says what the value is, `picture` what
+    the picture shows of it, `choose` what can be selected, and `without` when a place counts as
+    lost; `short` is the title of what lacks something, and `met` says that nothing does; `source`
+    and `sink` say what a place is; `flow`, `idle` and `amount` are of a pipe that is selected, and
+    `legend` explains its numbers."""
+
+    task: str
+    picture: str
+    choose: str
+    short: str
+    met: str
+    source: str
+    sink: str
+    place: str
+    without: str
+    flow: str
+    idle: str
+    amount: str
+    legend: str
+
+
+class Words(NamedTuple):
+    """The sentences and titles in which networks and rosters differ. What stands in braces is
+    filled in. `crosses` and `crosses_one` are about the bottleneck, of several parts and of one,
+    `severed` is about a network without one. `worth` says how losses were reckoned, of a pipe and
+    of a place that is lost; `arc` is the word for a pipe, if the table does not have it.
+    """
+
+    page: PageWords
+    question: str
+    size: str
+    crosses: str
+    crosses_one: str
+    severed: str
+    carries: str
+    demands: str
+    demand: str
+    demand_titles: tuple[str, str, str]
+    worth: str
+    shut: str
+    places: str
+    arc: str = ""
+
+
+NETWORK = Words(
+    page=PageWords(
+        task="can be sent from {source} to {sink}",
+        picture="flow from {source} to {sink}",
+        choose="Click a {arc} or a place in the picture, or find one by its name.",
+        short="Too little arrives",
+        met="All demands are met.",
+        source="source",
+        sink="sink",
+        place="place",
+        without="one of these places is shut",
+        flow="Flow",
+        idle="nothing flows",
+        amount="What it can carry",
+        legend="45/60: 45{unit} flow where 60 fit",
+    ),
+    question="what can be sent from {source} to {sink}",
+    size="{arcs} between {places} places",
+    crosses="All that is sent has to pass these {count}, and together they carry {value} at most. "
+    "To widen only others brings nothing.",
+    crosses_one="All that is sent has to pass this one, and it carries {value} at most. To widen "
+    "only others brings nothing.",
+    severed="Nothing leads from {source} to {sink} any more, so nothing can be sent.",
+    carries="carries at most",
+    demands="Demands",
+    demand="demand",
+    demand_titles=("place", "takes at most", "gets"),
+    worth="Each value is the most that can be sent with only this {arc} closed, or only this place "
+    "shut",
+    shut="place that is shut",
+    places="places",
+)
+ROSTER = Words(
+    page=PageWords(
+        task="can be staffed",
+        picture="are staffed",
+        choose="Click a person, a day or a shift in the picture, or find one by its name.",
+        short="Not fully staffed",
+        met="All shifts are staffed.",
+        source="person",
+        sink="shift",
+        place="person, day or shift",
+        without="one of these is left out",
+        flow="Staffed",
+        idle="not taken",
+        amount="What it allows",
+        legend="8/16: 8{unit} are staffed where 16 are allowed",
+    ),
+    question="how {amount} can be staffed",
+    size="{people} and {shifts}",
+    crosses="All that is staffed counts against these {count}, and together they allow {value} at "
+    "most. To raise only others brings nothing.",
+    crosses_one="All that is staffed counts against this one, and it allows {value} at most. To "
+    "raise only others brings nothing.",
+    severed="Nobody can take a shift any more, so nothing can be staffed.",
+    carries="allows at most",
+    demands="Shifts",
+    demand="shift",
+    demand_titles=("shift", "needs", "gets"),
+    worth="Each value is the most that can be staffed with only this {arc} closed, or only this "
+    "person, day or shift left out",
+    shut="person, day or shift",
+    places="people, days and shifts",
+    arc="connection",
+)
+
+
+def words_of(notes: Iterable[str]) -> Words:
+    """Return the words for a network, by the notes on how its table was read."""
+    return ROSTER if is_of_roster(notes) else NETWORK

@@ -1,0 +1,106 @@
+"""The page of a roster speaks of people and shifts, in headless Chromium."""
+
+from __future__ import annotations
+
+import re
+from pathlib import Path
+from typing import Any
+
+import pytest
+from board_pages import Page
+from board_running import board
+from desk_shared import ROOT
+from test_board_access import as_before, show
+
+pytestmark = pytest.mark.seconds(20)
+ROTA = str(ROOT / "examples/rota/rota.csv"), "--shift", "8", "--daily", "1"
+# The words of networks that no roster has, and where the page shows its own words: all but the
+# names of what it lists, and the form that adds an arc.
+WATER_WORDS = (
+    "sent",
+    "carries",
+    "carry",
+    "widen",
+    "wider",
+    "demand",
+    "place",
+    "pipe",
+    "source",
+    "sink",
+)
+OWN_WORDS = """
+const parts = ["#head", "#picture-said", "#what", "#short", "#limit", "#worst", "#legend"];
+return parts.map((it) => {
+  const part = document.querySelector(it).cloneNode(true);
+  for (const form of part.querySelectorAll("form:has(#new-head), #costs")) form.remove();
+  return part.textContent;
+}).join(" ");
+"""
+
+
+def judge_words(page: Page) -> None:
+    said = page.driver.execute_script(OWN_WORDS)
+    assert "hours" in said
+    for word in WATER_WORDS:
+        assert not re.search(rf"\b{word}", said), f"{word}: {said}"
+
+
+def test_words(driver: Any) -> None:
+    """In the headline, the picture's description and *Selected*: of nothing, a person, a shift, and
+    a connection. The numbers are those of the story: 7 parts allow 120 of 128 hours."""
+    with board(*ROTA) as it:
+        show(driver, 1280, "light")
+        page = Page(driver, it.address)
+        page.know_worth()
+        judge_words(page)
+        assert page.text("#what") == (
+            "Click a person, a day or a shift in the picture, or find one by its name."
+        )
+        assert page.text("#limit-note").startswith(
+            "All that is staffed counts against these 7, and together they allow 120 hours at "
+            "most. To raise only others brings nothing. Before them: "
+        )
+        assert [page.text(f"#{it}-table thead").split() for it in ("limit", "short")] == [
+            ["Connection", "allows", "at", "most"],
+            ["Shift", "gets", "short"],
+        ]
+        assert page.text("#worst-places-table thead").startswith("Person, day or shift")
+        for name, is_a in ("Cem", "a person"), ("Sun night", "a shift"), ("Cem on Fri", ""):
+            page.write("#text", name)
+            page.wait(lambda: page.text("#found button") == name)
+            page.click("#found button")
+            page.wait(lambda: page.text("#what h3") == name)
+            assert page.text("#what .chips").startswith(is_a)
+            judge_words(page)
+        page.click("#what table button")
+        page.wait(lambda: page.fact("Staffed") == "8 of 8")
+        judge_words(page)
+        as_before(driver)
+
+
+def test_none_is_short(driver: Any, tmp_path: Path) -> None:
+    """If nothing is missing, a roster says that all shifts are staffed, and a network that all
+    demands are met."""
+    (tmp_path / "rota.csv").write_text("name,hours,Mon,Tue\nneeded,,1,1\nAnna,8,x,\nBen,8,,x\n")
+    (tmp_path / "pipes.csv").write_text("from,to,l/s\nSpring,Mill,20\n")
+    (tmp_path / "asked.csv").write_text("place,demand\nMill,20\n")
+    network = "--source", "Spring", "--sinks", f"{tmp_path}/asked.csv", f"{tmp_path}/pipes.csv"
+    for words, value, said, limit in (
+        (
+            (f"{tmp_path}/rota.csv", "--shift", "8", "--daily", "1"),
+            16,
+            "All shifts are staffed.",
+            "All that is staffed counts against these 2, and together they allow 16 hours at most.",
+        ),
+        (
+            network,
+            20,
+            "All demands are met.",
+            "All that is sent has to pass this one, and it carries 20 l/s at most.",
+        ),
+    ):
+        with board(*words) as it:
+            page = Page(driver, it.address)
+            assert (page.value(), page.text("#demands")) == (value, said)
+            assert page.text("#limit-note").startswith(limit)
+            driver.get("about:blank")
