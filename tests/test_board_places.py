@@ -4,6 +4,7 @@ from __future__ import annotations
 
 import json
 import shutil
+import statistics
 from pathlib import Path
 from random import Random
 from typing import Any
@@ -14,7 +15,7 @@ import pytest
 from board_running import board
 from desk_shared import PIPES, ROOT
 from test_board_ground import city
-from test_board_view import spots
+from test_board_view import grid_table, spots
 
 pytestmark = pytest.mark.seconds(10)
 SVG = "{http://www.w3.org/2000/svg}"
@@ -217,6 +218,20 @@ def test_many_fit_the_window(tmp_path: Path, form: int) -> None:
         svg = it.told(f"picture?near=&form={form}")["svg"]
     _, _, wide, high = map(float, (ElementTree.fromstring(svg).get("viewBox") or "").split())
     assert 1 / 1.3 < wide / high / (form / 100) < 1.3
+
+
+def test_read_from_left_to_right(tmp_path: Path) -> None:
+    """Places that are spread out lie further to the right the more arcs they are away from the
+    source, though as many arcs lead downwards as to the right; the sink is at the other end."""
+    side = 12
+    with board(grid_table(tmp_path, side)) as it:
+        found = ovals(it.told("picture?near=&form=140")["svg"])
+    right = {name: x for name, (x, *_) in found.items()}
+    columns = [
+        statistics.mean(right[f"P{row}_{column}"] for row in range(side)) for column in range(side)
+    ]
+    assert columns == sorted(columns)
+    assert right["Lake"] < columns[1] and columns[-2] < right["Sea"]
 
 
 def test_one_form_if_kept(tmp_path: Path) -> None:

@@ -9,7 +9,8 @@ from __future__ import annotations
 import json
 import math
 import re
-from collections.abc import Iterable, Iterator, Mapping, Sequence
+from collections import defaultdict, deque
+from collections.abc import Collection, Iterable, Iterator, Mapping, Sequence
 from dataclasses import dataclass, field
 from typing import NamedTuple
 
@@ -68,8 +69,8 @@ class Places:
     state: `called` has the names of those that were made, by their nodes, and `apart` the spots of
     those that are not there now. `moved` has where those lie that were moved by hand, also by their
     names if they were made; and `routed` the spots between which the routes were drawn. `form` is
-    how many times as wide as high the window is in which places are put first, and `number`
-    distinguishes a layout from others."""
+    how many times as wide as high the window is in which places are put first, `sources` has those
+    that lie to the left then, and `number` distinguishes a layout from others."""
 
     spots: dict[int, Spot] = field(default_factory=dict)
     routes: dict[Way, Route] = field(default_factory=dict)
@@ -78,6 +79,7 @@ class Places:
     moved: Mapping[int | str, Spot] = field(default_factory=dict)
     routed: Mapping[int, Spot] = field(default_factory=dict)
     form: float = WINDOW
+    sources: frozenset[int] = frozenset()
     number: int = 0
 
     @property
@@ -130,11 +132,11 @@ class Places:
         """Put places, none of which is known yet, as Graphviz does best, beside those that are
         known."""
         if len(new) > MOST_TRIED:
-            found, drawn = Places(spread_out(text, ways, self.form)), ""
+            found, drawn = Places(spread_out(text, ways, self.sources, self.form)), ""
         else:
             found, drawn = _layered(text, self.form)
         if MOST_LAYERED < len(new) <= MOST_TRIED and _misfit(found, self.form) > MOST_LONG:
-            found, drawn = Places(spread_out(text, ways, self.form)), ""
+            found, drawn = Places(spread_out(text, ways, self.sources, self.form)), ""
         # What was spread out is longer again where places that overlapped were moved apart.
         if _misfit(found, self.form) > FITS:
             found, drawn = Places(_stretched(found.spots, self.form)), ""
@@ -274,14 +276,22 @@ def _stretched(spots: Mapping[int, Spot], form: float) -> dict[int, Spot]:
     }
 
 
-def spread_out(text: str, ways: Iterable[Way], form: float = WINDOW) -> dict[int, Spot]:
-    """Return where places lie that attract their neighbours, with most arcs from left to right, in
-    the form of a window. Layers of as many would be a strip."""
+def spread_out(
+    text: str, ways: Sequence[Way], sources: frozenset[int] = frozenset(), form: float = WINDOW
+) -> dict[int, Spot]:
+    """Return where places lie that attract their neighbours, further to the right the more arcs
+    they are away from the sources, in the form of a window. Layers of as many would be a strip."""
     begun = text.rstrip().removesuffix("}") + f"  notranslate=true; splines=false; {FORCES}\n"
     spots = laid_out("sfdp", begun + "}\n")[0].spots
-    right = sum(spots[head].x - spots[tail].x for tail, head, _ in ways)
-    up = sum(spots[head].y - spots[tail].y for tail, head, _ in ways)
-    turn = complex(right, -up) / (math.hypot(right, up) or 1.0)
+    away = _arcs_away(ways, sources & spots.keys())
+    middle = sum(away.values()) / (len(away) or 1)
+    ahead = (
+        sum(((by - middle) * complex(*spots[node]) for node, by in away.items()), 0j)
+        if any(by != middle for by in away.values())
+        # Most arcs lead from left to right.
+        else sum((complex(*spots[head]) - complex(*spots[tail]) for tail, head, _ in ways), 0j)
+    )
+    turn = ahead.conjugate() / (abs(ahead) or 1.0)
     turned = {
         node: Spot((complex(*spot) * turn).real, (complex(*spot) * turn).imag)
         for node, spot in spots.items()
@@ -294,6 +304,23 @@ def spread_out(text: str, ways: Iterable[Way], form: float = WINDOW) -> dict[int
     settings = '  overlap=prism; sep="+14"; notranslate=true; inputscale=72; splines=false\n'
     apart = laid_out("neato", text.rstrip().removesuffix("}") + settings + pins + "}\n", "-n")[0]
     return {node: Spot(round(it.x, 2), round(it.y, 2)) for node, it in apart.spots.items()}
+
+
+def _arcs_away(ways: Iterable[Way], sources: Collection[int]) -> dict[int, int]:
+    """Return how many arcs places are away from the sources, in whichever way the arcs lead."""
+    beside: dict[int, list[int]] = defaultdict(list)
+    for tail, head, _ in ways:
+        beside[tail].append(head)
+        beside[head].append(tail)
+    found = dict.fromkeys(sources, 0)
+    left = deque(sources)
+    while left:
+        node = left.popleft()
+        for other in beside[node]:
+            if other not in found:
+                found[other] = found[node] + 1
+                left.append(other)
+    return found
 
 
 def laid_out(engine: str, text: str, *words: str) -> tuple[Places, str]:

@@ -14,15 +14,15 @@ PATIENCE = 0.05
 
 class LayoutRun:
     """A layout that is computed in a thread of its own: of the nodes and arcs of a text for
-    Graphviz, for a window of this form. `version` is that of the picture before it."""
+    Graphviz, to be put into `found`. `version` is that of the picture before it."""
 
     def __init__(
-        self, text: str, nodes: Sequence[int], ways: Sequence[Way], form: float, version: int
+        self, text: str, nodes: Sequence[int], ways: Sequence[Way], found: Places, version: int
     ) -> None:
         self.version = version
         # Why nothing was found, if so.
         self.fault: Exception | None = None
-        self.found = Places(form=form)
+        self.found = found
         self._thread = threading.Thread(target=self._find, args=(text, nodes, ways), daemon=True)
         self._thread.start()
 

@@ -101,7 +101,7 @@ class Picture:
 
     def __init__(self, desk: Desk) -> None:
         self._desk = desk
-        self.places = Places()
+        self.places = Places(sources=frozenset(desk.network.sources))
         self._given: Counter[int] | None = None
         # The layouts of the last shapes, so that a step back finds its own, with the spots of their
         # places: these may have been moved by hand since.
@@ -150,9 +150,9 @@ class Picture:
         ways = shape.ways()
         text = _text(self._lines(shape, ways))
         drawn = [it.node for it in shape.nodes]
-        run = LayoutRun(text, drawn, [*ways.values()], self.places.form, version)
-        run.found.called.update(self._desk.network.names.made)
-        return run
+        found = Places(form=self.places.form, sources=self.places.sources)
+        found.called.update(self._desk.network.names.made)
+        return LayoutRun(text, drawn, [*ways.values()], found, version)
 
     def _seen_of(self, shape: Shape) -> list[Spot]:
         """Return where the places of a shape are seen, as far as they have spots."""
