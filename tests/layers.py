@@ -13,7 +13,7 @@ PACKAGE = "dmf"
 # other room names them.
 CORE = "the core"
 ROOMS = [
-    ["errors", "quantity", "history"],
+    ["errors", "quantity", "history", "running"],
     ["text"],
     ["files"],
     ["session"],

@@ -427,6 +427,26 @@ def test_tidy_beside(tmp_path: Path) -> None:
         assert it.told("ground")["right"][0] == pytest.approx(ground["right"][0] + 10, abs=0.01)
 
 
+def test_no_program_is_left(tmp_path: Path, monkeypatch: pytest.MonkeyPatch) -> None:
+    """A board that ends while places are laid out ends Graphviz too."""
+    dot, begun = tmp_path / "dot", tmp_path / "begun"
+    dot.write_text(f"#!/bin/sh\necho $$ > {begun}.part; mv {begun}.part {begun}\nexec sleep 60\n")
+    dot.chmod(0o755)
+    monkeypatch.setenv("PATH", str(tmp_path), prepend=":")
+    with board(PIPES) as it:
+        assert it.post("tidy", near="", form=140)[0] == 200
+        while not begun.exists():
+            time.sleep(0.01)
+        program = Path("/proc", begun.read_text().strip(), "cmdline")
+        assert program.read_text().startswith("sleep")
+        assert it.end() == 130
+        until = time.monotonic() + 2
+        while program.exists() and program.read_text() and time.monotonic() < until:
+            time.sleep(0.01)
+        # A program that nobody has waited for yet has no words any more.
+        assert not program.exists() or not program.read_text()
+
+
 # Lets a page hear that a layout is done once `goOn` is called.
 HELD = """
 const { fetch } = window;

@@ -11,11 +11,12 @@ from collections.abc import Callable, Iterable, Iterator, Sequence
 from itertools import chain
 from typing import IO, Any
 
+from .. import running
 from ..errors import Error, Refused, SessionEnded
 from ..files import passed_on, scratch
 from ..history import Command
 from ..text.lexical import display
-from . import executable, running
+from . import executable
 from .base import (
     MOST_KEPT,
     MOST_TEXT,

@@ -8,6 +8,7 @@ from collections.abc import Callable, Collection, Iterable, Iterator, Mapping, S
 from dataclasses import dataclass, field
 from functools import cached_property
 
+from .. import running
 from ..quantity import Quantity, plain_text
 from .lexical import display
 from .problem_text import ArcRecord, Problem
@@ -276,19 +277,24 @@ def graphviz(text: bytes, engine: str, *words: str, patience: int = 20) -> bytes
         raise FileNotFoundError(
             errno.ENOENT, "a picture needs Graphviz, which is not installed", engine
         )
-    try:
-        ran = subprocess.run(
-            [program, *words],
-            input=text,
-            capture_output=True,
-            timeout=patience,
-            start_new_session=True,
-        )
-    except subprocess.TimeoutExpired:
-        raise RuntimeError(f"Graphviz did not finish in {patience} seconds") from None
-    if ran.returncode:
-        told = ran.stderr.decode(errors="replace").strip().splitlines()
+    pipe = subprocess.PIPE
+    with subprocess.Popen(
+        [program, *words], stdin=pipe, stdout=pipe, stderr=pipe, start_new_session=True
+    ) as process:
+        running.note(process)
+        try:
+            drawn, said = process.communicate(text, timeout=patience)
+        except subprocess.TimeoutExpired:
+            process.kill()
+            raise RuntimeError(f"Graphviz did not finish in {patience} seconds") from None
+        except BaseException:
+            process.kill()
+            raise
+        finally:
+            running.forget(process)
+    if process.returncode:
+        told = said.decode(errors="replace").strip().splitlines()
         raise RuntimeError(
-            f"Graphviz did not draw it: {told[-1] if told else f'status {ran.returncode}'}"
+            f"Graphviz did not draw it: {told[-1] if told else f'status {process.returncode}'}"
         )
-    return ran.stdout
+    return drawn

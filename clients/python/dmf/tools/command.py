@@ -14,7 +14,7 @@ from typing import BinaryIO, NoReturn
 
 from ..errors import Error, FileFault, OptionFault, SessionEnded, TableFault
 from ..files import cannot
-from ..session.running import kill_all
+from ..running import kill_all
 from ..text.lexical import display
 
 
