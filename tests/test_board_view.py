@@ -54,6 +54,8 @@ const at = [...Array(40).keys()].map((it) => [it * 7 - 140, it % 2 ? 40 : -40]);
 return at.find(([x, y]) =>
   !document.elementFromPoint(innerWidth / 2 + x, innerHeight / 2 + y).closest(".node, .arc"));
 """
+# How many pixels a unit of the picture has.
+SCALE = "return document.querySelector('#picture svg').getScreenCTM().a"
 NAMELESS_ENDS = """
 return [...document.querySelectorAll("#picture .node.unlabelled")].filter((part) =>
   part.querySelectorAll("ellipse:not(.halo)").length > 1).map((part) => part.id);
@@ -258,7 +260,7 @@ def judge_moves(page: Page, sink: str) -> None:
     page.driver.execute_script("arguments[0].scrollIntoView({ block: 'center' })", host)
     page.click("#fit-all")
     assert is_in(page, sink)
-    right, down, *_, wide = seen(page, sink)
+    right, down, *_ = seen(page, sink)
     # A drag that begins on a place moves the place.
     page.actions().move_to_element_with_offset(
         host, *page.driver.execute_script(FREE)
@@ -268,8 +270,9 @@ def judge_moves(page: Page, sink: str) -> None:
     assert page.text("#what h3") == "", "a drag is no click"
     host.send_keys("\ue009" + "\ue012" + "\ue000")
     assert seen(page, sink)[0] == pytest.approx(left + 60, abs=1)
+    before = page.driver.execute_script(SCALE)
     page.press("Larger")
-    assert seen(page, sink)[4] == pytest.approx(wide * 1.4, rel=0.1)
+    assert page.driver.execute_script(SCALE) == pytest.approx(before * 1.4, rel=0.1)
     page.press("All")
     assert is_in(page, sink)
     judge_wheel(page, host)
@@ -293,10 +296,9 @@ def judge_wheel(page: Page, host: Any) -> None:
     const before = at(), isDone = host.dispatchEvent(event);
     return [before.x - at().x, before.y - at().y, isDone];
     """
-    size = "return document.querySelector('#picture svg').getScreenCTM().a"
-    before = page.driver.execute_script(size)
+    before = page.driver.execute_script(SCALE)
     right, down, is_done = page.driver.execute_script(script, host, -200)
-    now = page.driver.execute_script(size)
+    now = page.driver.execute_script(SCALE)
     assert (abs(right) < 0.5, abs(down) < 0.5, is_done, now > before) == (True, True, False, True)
     assert page.driver.execute_script("return scrollY") == top
 

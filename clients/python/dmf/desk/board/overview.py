@@ -12,6 +12,7 @@ from ..demands import limited_amounts
 from ..export import MOST_DRAWN
 from ..steps import DeskFault
 from ..workspace import Desk
+from .dots import share
 from .layout import Places, Spot
 from .looks import Looks, Mark
 from .responses import Json
@@ -64,7 +65,8 @@ class Overview:
             "down": [round(-spot.y, 2) for spot in spots],
             "tails": [tail for tail, _ in ends],
             "heads": [head for _, head in ends],
-            "terminals": [*desk.network.sources, *desk.network.sinks],
+            "sources": desk.network.sources,
+            "sinks": desk.network.sinks,
         }
 
     def looks(self) -> Json:
@@ -104,14 +106,14 @@ class Overview:
             "ends": [*self._amounts(SUPPLY), *self._amounts(DEMAND)],
         }
 
-    def _amounts(self, kind: str) -> list[tuple[int, str, bool]]:
-        """Return what each source or each sink with a limit gives or takes, and whether too little
-        arrives there."""
+    def _amounts(self, kind: str) -> list[tuple[int, str, float]]:
+        """Return what each source or each sink with a limit gives or takes, and which part of what
+        it takes at most arrives."""
         return [
             (
                 node,
                 f"{AT_PLACE[kind]} {plain_text(it.flow)}/{plain_text(it.limit)}",
-                kind == DEMAND and it.short > 0,
+                share(it.flow, it.limit) if kind == DEMAND else 1.0,
             )
             for node, it in limited_amounts(self._desk, kind).items()
         ]

@@ -18,7 +18,8 @@ from ..pipes import TwoWayPipe
 from ..steps import DeskArc
 from ..workspace import Desk
 from .arrows import SVG, add_arrows, turn_arrow
-from .layout import Places, Spot, Way, run
+from .dots import SETTINGS, Ends, mark_dots
+from .layout import MOST_LAYERED, Places, Spot, Way, run
 from .layout_run import LayoutRun
 
 # Up to this many places, arcs are routed around places, which takes a second for 50 of them.
@@ -102,17 +103,21 @@ class Picture:
     def __init__(self, desk: Desk) -> None:
         self._desk = desk
         self.places = Places(sources=frozenset(desk.network.sources))
+        # Whether places may lie as on a map, where they may be close to each other.
+        self.is_map = False
         self._given: Counter[int] | None = None
         # The layouts of the last shapes, so that a step back finds its own, with the spots of their
-        # places: these may have been moved by hand since.
-        self._layouts: dict[Shape, tuple[list[Spot], str]] = {}
+        # places: these may have been moved by hand since. Some have dots for places.
+        self._layouts: dict[tuple[Shape, bool], tuple[list[Spot], str]] = {}
 
     def svg(self, nodes: tuple[int, ...], arcs: list[int], *, to_take: bool = False) -> str:
         """Return the picture of these arcs, and of these nodes even if they have no arc. With
-        `to_take`, for a file of its own, it contains its style. Raises `NoPicture`."""
+        `to_take`, for a file of its own, it contains its style, and names in all places. Raises
+        `NoPicture`."""
         self._put_made()
         shape = self._shape_of(arcs, nodes)
-        root = self.laid_out(shape)
+        is_dotted = not to_take and (self.is_map or len(shape.nodes) > MOST_LAYERED)
+        root = self.laid_out(shape, is_dotted=is_dotted)
         self._fill(root, shape)
         return written(root, STYLE, caption(self._desk, LEGEND)) if to_take else written(root)
 
@@ -132,16 +137,20 @@ class Picture:
             if others:
                 places.put_beside(node, [places.seen[it] for it in others], lines)
 
-    def laid_out(self, shape: Shape) -> ElementTree.Element:
-        """Return the layout of a shape, without numbers. Raises `NoPicture`."""
-        spots, layout = self._layouts.pop(shape, ([], ""))
+    def laid_out(self, shape: Shape, *, is_dotted: bool = False) -> ElementTree.Element:
+        """Return the layout of a shape, without numbers. If it is dotted, its places are dots, with
+        room for their names beside them. Raises `NoPicture`."""
+        key = shape, is_dotted
+        spots, layout = self._layouts.pop(key, ([], ""))
         if not layout or spots != self._seen_of(shape):
-            layout = self._lay_out(shape)
+            layout = self._lay_out(shape, is_dotted)
         self._layouts = dict([*self._layouts.items()][1 - MOST_KEPT :])
-        self._layouts[shape] = self._seen_of(shape), layout
+        self._layouts[key] = self._seen_of(shape), layout
         root = ElementTree.fromstring(layout)
         _seen(root)
         add_arrows(root)
+        if is_dotted:
+            mark_dots(root)
         return root
 
     def begin_layout(self, arcs: list[int], nodes: tuple[int, ...], version: int) -> LayoutRun:
@@ -159,12 +168,15 @@ class Picture:
         seen = self.places.seen
         return [seen[it.node] for it in shape.nodes if it.node in seen]
 
-    def _lay_out(self, shape: Shape) -> str:
+    def _lay_out(self, shape: Shape, is_dotted: bool) -> str:
         ways = shape.ways()
         drawn = self.places.put(
             [it.node for it in shape.nodes], [*ways.values()], _text(self._lines(shape, ways))
         )
-        return drawn or run(_text(self._lines(shape, ways, is_put=True)), "neato", "-n2", "-Tsvg")
+        if drawn and not is_dotted:
+            return drawn
+        put = self._lines(shape, ways, is_put=True, is_dotted=is_dotted)
+        return run(_text(put), "neato", "-n2", "-Tsvg")
 
     def _ends(self, line: DeskArc) -> tuple[int, int]:
         """Return the places at the ends of an arc."""
@@ -238,16 +250,26 @@ class Picture:
             ),
         )
 
-    def _lines(self, shape: Shape, ways: dict[int, Way], *, is_put: bool = False) -> Iterator[str]:
+    def _lines(
+        self,
+        shape: Shape,
+        ways: dict[int, Way],
+        *,
+        is_put: bool = False,
+        is_dotted: bool = False,
+    ) -> Iterator[str]:
         """Yield the lines of a picture for Graphviz. With `is_put` it has the spots and routes that
-        are known."""
+        are known, and may be dotted."""
         network, seen = self._desk.network, self.places.seen
-        splines = "line" if is_put and len(shape.nodes) > MOST_ROUTED else "true"
+        is_straight = is_dotted or is_put and len(shape.nodes) > MOST_ROUTED
+        splines = "line" if is_straight else "true"
         yield (
             "digraph dmf {\n  rankdir=LR; bgcolor=transparent; ranksep=0.2; nodesep=0.6; "
             f"splines={splines}; notranslate=true"
         )
         yield '  node [fontname="Helvetica"]\n  edge [fontname="Helvetica", fontsize=11]'
+        if is_dotted:
+            yield SETTINGS
         if network.measure.legend:
             yield f'  fontname="Helvetica"; fontsize=11; label={quoted(network.measure.legend)}'
         for it in shape.nodes:
@@ -269,7 +291,7 @@ class Picture:
                 "label": label,
                 "class": '"{} {} {}"'.format(*way),
             }
-            route = self.places.route(way) if is_put else None
+            route = self.places.route(way) if is_put and not is_dotted else None
             if route:
                 named = zip(("pos", "lp"), route)
                 looks.update({name: quoted(text) for name, text in named if text})
@@ -306,11 +328,13 @@ class Picture:
                 looks,
                 f"{network.names.arc(number)}: {spoken(desk, number, cut)}",
             )
+        ends = Ends(desk)
         for it in shape.nodes:
             group = groups[f"node-{it.node}"]
             for ellipse in group.findall(f"{{{SVG}}}ellipse")[:1]:
                 ellipse.set("class", "inner")
             label = it.label + ", shut" * it.is_shut
+            group.attrib.update(ends.looks(it.node, it.roles))
             # The first text is the name.
             for text, (number, words, _) in zip(group.findall(f"{{{SVG}}}text")[1:], it.roles):
                 text.text = f"{words} {_amounts(desk, number)}"

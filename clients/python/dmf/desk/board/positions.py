@@ -78,6 +78,7 @@ class Placement:
             self.origin = MAP if spots else self._kept_origin()
             self._take_kept(spots)
             self._is_laid_out = not self.places.spots
+        self.picture.is_map = self.origin != DRAWN
 
     @property
     def places(self) -> Places:
@@ -226,7 +227,7 @@ class Placement:
         self._count += 1
         found.number = self._count
         self._moved = {}
-        self.origin = DRAWN
+        self.origin, self.picture.is_map = DRAWN, False
         self.places.take(found)
         self._pictures, self._is_laid_out = {}, False
         self.version += 1

@@ -3,6 +3,7 @@
  * paint all of them takes far longer.
  * @typedef {import("./view.js").Box} Box
  */
+import { markEnd } from "./dots.js";
 import { at, replace } from "./elements.js";
 
 /** A part of a drawing as the board writes it. No part contains another group, and names in it are text, so the first `</g>` ends it. */
@@ -72,7 +73,7 @@ function read(text) {
 
 /**
  * Makes a part of the picture a button that its title names, with room for a click and, beside it, for the mark of the selection.
- * @param {Element} group
+ * @param {SVGElement} group
  */
 function prepare(group) {
   group.setAttribute("role", "button");
@@ -82,4 +83,5 @@ function prepare(group) {
   const beside = /** @type {Element} */ (line.cloneNode());
   beside.setAttribute("class", line.matches("path") ? "wide" : "halo");
   group.insertBefore(beside, group.querySelector("path, ellipse"));
+  markEnd(group);
 }

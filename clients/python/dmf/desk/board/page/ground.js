@@ -5,9 +5,10 @@
  * @typedef {{ number: number, tail: number, head: number, from: [number, number], to: [number, number], aside: [number, number],
  *   mark: Mark }} Line
  *   where it begins and where it flows to, and the direction and number of lanes by which it is moved aside from arcs with the same ends
- * @typedef {{ node: number, name: string, x: number, y: number, look: string, isEnd: boolean, weight: number, told: string,
- *   isShort: boolean }} Spot
- *   `weight` says how much flows through it, in about, and whether it is at the bottleneck; `told`, what it gives or takes
+ * @typedef {{ node: number, name: string, x: number, y: number, look: string, end: string, weight: number, told: string,
+ *   share: number }} Spot
+ *   `end` says whether it is a source or a sink, `weight` how much flows through it, in about, and whether it is at the bottleneck, `told`
+ *   what it gives or takes, and `share` which part of what it takes at most arrives
  */
 import { choose, theChoice } from "./choice.js";
 import { markOf, thicker, usualLength } from "./colourings.js";
@@ -23,7 +24,7 @@ const NONE = " ", BACK = "<";
 const APART = 5, NEAR = 9;
 export const NAMES = 0.3;
 /** What is told of a place without a limited amount. */
-const QUIET = { told: "", isShort: false };
+const QUIET = { told: "", share: 1 };
 /** The weight of an arc of the bottleneck, more than that of all others at a place. */
 export const OF_LIMIT = 1e6;
 /** @type {Map<number, Spot>} */
@@ -63,8 +64,10 @@ export async function lookAtGround(isThere, version) {
     const told = await ask("ground");
     if (!told) return;
     known = version;
+    const [sources, sinks] = [new Set(told.sources), new Set(told.sinks)];
+    const endOf = (/** @type {number} */ node) => (sources.has(node) ? "source" : sinks.has(node) ? "sink" : "");
     told.nodes.forEach((/** @type {number} */ node, /** @type {number} */ place) => places.set(node, { node, name: told.names[place],
-      x: told.right[place], y: told.down[place], look: ".", isEnd: told.terminals.includes(node), weight: 0, ...QUIET }));
+      x: told.right[place], y: told.down[place], look: ".", end: endOf(node), weight: 0, ...QUIET }));
     ends = told.tails.map((/** @type {number} */ tail, /** @type {number} */ place) => [place + 1, tail, told.heads[place]]);
   }
   const told = await ask("looks");
@@ -73,8 +76,8 @@ export async function lookAtGround(isThere, version) {
   [...places.values()].forEach((place, number) => {
     Object.assign(place, { look: told.places[number], ...QUIET });
   });
-  for (const [node, name, x, y, look] of told.made) places.set(node, { node, name, x, y, look, isEnd: false, weight: 0, ...QUIET });
-  for (const [node, words, isShort] of told.ends) Object.assign(places.get(node) ?? {}, { isEnd: true, told: words, isShort });
+  for (const [node, name, x, y, look] of told.made) places.set(node, { node, name, x, y, look, end: "", weight: 0, ...QUIET });
+  for (const [node, words, share] of told.ends) Object.assign(places.get(node) ?? {}, { told: words, share });
   made = told.made.map((/** @type {any[]} */ [node]) => node);
   const signs = (/** @type {number} */ place) => ["arcs", "uses", "changes", "widths", "ways"].map((text) => told[text][place]).join("");
   ground.lines = linesOf([...ends.map((one, place) => [...one, signs(place)]), ...told.added]);

@@ -4,7 +4,8 @@
  * Graphviz made them, within readable bounds.
  * @typedef {{ part: SVGElement, texts: SVGTextElement[], x: number, y: number, width: number, height: number, size: number,
  *   rank: number, oval: Oval | null, line: Spot[] }} Label
- * @typedef {{ x: number, y: number, right: number, down: number }} Oval the middle of a place, and its half axes
+ * @typedef {{ x: number, y: number, right: number, down: number, isDot: boolean }} Oval the middle of a place, and its half axes, unless it
+ *   is a dot
  * @typedef {{ x: number, y: number, across: [number, number] }} Spot a point of a line, and the direction at right angles to it
  * @typedef {import("./ink.js").Edges} Edges
  * @typedef {import("./spots.js").Ground} Ground
@@ -13,16 +14,20 @@
  */
 import { HALO } from "./arrows.js";
 import { Boxes, edges } from "./boxes.js";
+import { isDot, lead, reachOf } from "./dots.js";
 import { pointsOf } from "./ink.js";
-import { freeSpot } from "./spots.js";
+import { endSpot, leaderBoxes } from "./leading.js";
+import { freeSpot, sight } from "./spots.js";
 /** The bounds of the letters' height, in pixels; the height of a line for that; and the distance of a label from its place, in pixels. */
 const LEAST = 11.2, MOST = 14, LINE = 1.25, APART = 3;
 /** The largest part of an oval that a label inside it may fill. */
 const FILLED = 1.6;
 /** The rank up to which labels are shown even if they have to lie on lines: those of the source, the sink and the selection. */
 const NEEDED = 0;
-/** The spots of a place's label, around the place; and of an arc's, from where Graphviz put it, in parts of its size. */
+/** The spots of a place's label, around the place, and between these if it is further out; and of an arc's, from where Graphviz put it, in
+ * parts of its size. */
 const AROUND = [[1, 0], [-1, 0], [0, -1], [0, 1], [1, -1], [1, 1], [-1, -1], [-1, 1]];
+const BETWEEN = [[0.5, -1], [-0.5, -1], [0.5, 1], [-0.5, 1]];
 const BESIDE = [[0, 0], [0, -0.3], [0, 0.3], [0.3, 0], [-0.3, 0], [0, -0.6], [0, 0.6], [0.3, -0.3], [-0.3, 0.3]];
 /** Which points of an arc's line its label may lie beside, the best first; and how far the arrow reaches from the line, in pixels. */
 const ALONG = [6, 4, 8, 2, 10], ARROW = 6.5;
@@ -89,8 +94,16 @@ function ovalOf(part) {
   const all = [...part.querySelectorAll("ellipse:not(.halo)")];
   if (!all.length) return null;
   const far = (/** @type {string} */ name) => Math.max(...all.map((it) => Number(it.getAttribute(name))));
-  return { x: far("cx"), y: Number(all[0].getAttribute("cy")), right: far("rx"), down: far("ry") };
+  return { x: far("cx"), y: Number(all[0].getAttribute("cy")), right: far("rx"), down: far("ry"), isDot: isDot(part) };
 }
+
+/**
+ * Returns how far a label's place reaches to the right and downwards, in pixels.
+ * @param {Label} label
+ * @param {number} scale
+ */
+const reaches = ({ part, oval }, scale) => (oval?.isDot ? [reachOf(part), reachOf(part)]
+  : [oval?.right ?? 0, oval?.down ?? 0].map((it) => it * scale));
 
 /**
  * Returns the rank of a label, the most important first: the source and the sink, the bottleneck or what differs, places, full arcs, other
@@ -136,6 +149,9 @@ export function nameSpot(own, [right, down], isNeeded) {
   return spot;
 }
 
+/** @param {Label} label */
+const isDotOfEnd = ({ oval, rank: importance }) => Boolean(oval?.isDot) && importance <= NEEDED;
+
 /**
  * Shows the labels that find a spot, and hides the others.
  * @param {Label[]} labels
@@ -143,23 +159,31 @@ export function nameSpot(own, [right, down], isNeeded) {
  * @param {Ground} ground
  */
 export function arrange(labels, scale, ground) {
-  const [taken, places] = [new Boxes(), new Boxes()], now = { taken, places, ...ground };
+  const [taken, places, names] = [new Boxes(), new Boxes(), new Boxes()], now = { taken, places, names, ...ground };
   present = now;
   const ovals = new Map(labels.map((label) => {
-    const { oval } = label, box = oval && edges(oval.x * scale, oval.y * scale, oval.right * scale, oval.down * scale);
-    for (const boxes of box ? [taken, places] : []) boxes.add(/** @type {Edges} */ (box));
+    const { oval } = label, [aside, above] = reaches(label, scale), box = oval && edges(oval.x * scale, oval.y * scale, aside, above);
+    for (const boxes of box ? [taken, places, ...isDotOfEnd(label) ? [names] : []] : []) boxes.add(/** @type {Edges} */ (box));
     return [label, box];
   }));
   const first = (/** @type {Label} */ label) => (label.part.matches(".chosen") ? -1 : label.rank);
   for (const label of [...labels].sort((one, other) => first(one) - first(other))) {
     const by = Math.min(MOST, Math.max(LEAST, label.size * scale)) / (label.size * scale);
     const [right, down] = [label.width * scale * by / 2, label.height * scale * by / 2], own = ovals.get(label) ?? null;
-    const isChosen = first(label) < 0, rings = RINGS.filter((ring) => isChosen || !label.oval && ring * down < FURTHEST * scale);
+    const isChosen = first(label) < 0, isEnd = isDotOfEnd(label);
+    const rings = RINGS.filter((ring) => isChosen || isEnd || !label.oval && ring * down < FURTHEST * scale);
     const half = (ground.thicker * Number(label.part.style.getPropertyValue("--thick")) + (isChosen ? HALO : 0)) / 2;
-    const found = spots(label, right, down, scale, half).concat(further(label, right, down, scale, rings));
-    const spot = freeSpot(found, [right, down], now, { own, arc: label.oval ? undefined : label.part, isNeeded: first(label) <= NEEDED });
-    if (spot) taken.add(edges(spot[0], spot[1], right, down));
+    const near = spots(label, right, down, scale, half), far = further(label, right, down, scale, rings);
+    const arc = label.oval ? undefined : label.part, isNeeded = first(label) <= NEEDED;
+    const spot = own && isEnd ? endSpot(own, near, far, [right, down], now)
+      : freeSpot([...near, ...far], [right, down], now, { own, arc, isNeeded });
+    const box = spot && edges(spot[0], spot[1], right, down);
+    for (const it of box ? [box, ...own && isEnd ? leaderBoxes(own, box) : []] : []) {
+      taken.add(it);
+      names.add(it);
+    }
     put(label, by, spot && { x: spot[0] / scale, y: spot[1] / scale, isIn: spot[2] });
+    if (label.oval?.isDot) lead(label.part, box && sight(box, ground) === "seen" ? box : null, scale);
   }
 }
 
@@ -172,7 +196,8 @@ export function arrange(labels, scale, ground) {
  * @param {number} half half the thickness of the arc's line
  * @returns {Place[]}
  */
-function spots({ oval, line, x, y }, right, down, scale, half) {
+function spots(label, right, down, scale, half) {
+  const { oval, line, x, y } = label, [ovalRight, ovalDown] = reaches(label, scale);
   if (!oval) {
     const near = BESIDE.map(([along, below]) => /** @type {Place} */ (
       [x * scale + 2 * along * right, y * scale + 2 * below * down, false]));
@@ -182,7 +207,6 @@ function spots({ oval, line, x, y }, right, down, scale, half) {
         [pointX * scale + out * along, pointY * scale + out * below, false]));
     }));
   }
-  const [ovalRight, ovalDown] = [oval.right * scale, oval.down * scale];
   const isIn = Math.max(right / ovalRight, down / ovalDown) < 1 && (right / ovalRight) ** 2 + (down / ovalDown) ** 2 <= FILLED;
   if (isIn) return [[x * scale, y * scale, true]];
   return AROUND.map(([along, below]) => [oval.x * scale + along * (ovalRight + right + APART),
@@ -198,9 +222,9 @@ function spots({ oval, line, x, y }, right, down, scale, half) {
  * @param {number[]} rings
  * @returns {Place[]}
  */
-function further({ oval, line, x, y }, right, down, scale, rings) {
-  const from = oval ?? line[0] ?? { x, y }, [aside, above] = oval ? [oval.right * scale, oval.down * scale] : [0, 0];
-  return rings.flatMap((ring) => AROUND.map(([along, below]) => /** @type {Place} */ (
+function further(label, right, down, scale, rings) {
+  const from = label.oval ?? label.line[0] ?? label, [aside, above] = reaches(label, scale);
+  return rings.flatMap((ring) => (label.oval ? [...AROUND, ...BETWEEN] : AROUND).map(([along, below]) => /** @type {Place} */ (
     [from.x * scale + along * (aside + right + ring * down), from.y * scale + below * (above + down + ring * down), false])));
 }
 

@@ -20,7 +20,7 @@ const FIELD = 110, SPARSE = 16, ROOMY = 30;
 export const isSparse = () => ground.usual * scale() >= SPARSE;
 
 /** @param {Spot} place */
-const isNeeded = (place) => place.isEnd || isMarked(place);
+const isNeeded = (place) => place.end !== "" || isMarked(place);
 
 /**
  * Returns true if a point is visible.
@@ -36,15 +36,15 @@ function isSeen(x, y) {
  * Returns how important a name is.
  * @param {Spot} place
  */
-const importance = (place) => place.weight + 1e6 * OF_LIMIT * (2 * Number(place.isEnd) + Number(isMarked(place)));
+const importance = (place) => place.weight + 1e6 * OF_LIMIT * (2 * Number(place.end !== "") + Number(isMarked(place)));
 
 /**
  * Returns the lines of a name: each text, whether it is bold, and whether it says that too little arrives.
  * @param {Spot} place
  * @returns {[string, boolean, boolean][]}
  */
-const linesOf = ({ name, isEnd, told, isShort }) => [[name, isEnd, false], ...(told ? [/** @type {[string, boolean, boolean]} */ (
-  [told, false, isShort])] : [])];
+const linesOf = ({ name, end, told, share }) => [[name, end !== "", false], ...(told ? [/** @type {[string, boolean, boolean]} */ (
+  [told, false, share < 1])] : [])];
 
 /**
  * Paints the names of places that are not drawn in front.

@@ -6,6 +6,7 @@
  */
 import { INSIDE, SHORT } from "./arrows.js";
 import { shadeOf, thicker, thickness } from "./colourings.js";
+import { END, paintEnd } from "./dots.js";
 import { at } from "./elements.js";
 import { isFaded } from "./filter.js";
 import { BEYOND, wider } from "./gliding.js";
@@ -93,7 +94,7 @@ function paintLines(pen, drawn, colour) {
 /** The page's colours, by their names. Looking one up takes longer than drawing with it. */
 function colours() {
   const style = getComputedStyle(document.documentElement);
-  const names = ["ink", "mark", "paper", "side", "unused", ...shades().map((shade) => shade.ink)];
+  const names = ["ink", "limit", "mark", "paper", "side", "unused", ...shades().map((shade) => shade.ink)];
   const found = new Map(names.map((name) => [name, style.getPropertyValue(`--${name}`)]));
   return (/** @type {string} */ name) => found.get(name) ?? "";
 }
@@ -189,14 +190,18 @@ function paintPlaces(pen, box, colour) {
   for (const place of behind) alike[isMarked(place) ? "mark" : place.look === SHUT ? "unused" : "ink"].push(place);
   pen.setLineDash([]);
   for (const [ink, spots] of Object.entries(alike)) {
-    circle(pen, spots);
+    circle(pen, spots.filter(({ end }) => !end));
     Object.assign(pen, { strokeStyle: colour(ink), lineWidth: (ink === "mark" ? 5 : 1) / scale() });
     pen.stroke();
     for (const fill of ["side", "paper"]) {
-      circle(pen, spots.filter(({ look }) => (look === BEFORE) === (fill === "side")));
+      circle(pen, spots.filter(({ look, end }) => !end && (look === BEFORE) === (fill === "side")));
       pen.fillStyle = colour(fill);
       pen.fill();
     }
+  }
+  for (const it of behind.filter(({ end }) => end)) {
+    const ink = it.look === SHUT ? "unused" : it.share < 1 ? "limit" : "ink", rim = isMarked(it) ? "mark" : ink;
+    paintEnd(pen, it, scale(), { rim: colour(rim), fill: colour(it.look === BEFORE ? "side" : "paper"), share: colour(ink) });
   }
   return behind;
 }
@@ -233,7 +238,4 @@ export function strokesSeen() {
  * Returns the radius of a place, in pixels.
  * @param {Spot} place
  */
-function reach({ isEnd }) {
-  const size = Math.min(5, Math.max(1, 14 * scale()));
-  return isEnd ? Math.max(1.6 * size, 5) : size;
-}
+const reach = ({ end }) => (end ? END : Math.min(5, Math.max(1, 14 * scale())));

@@ -8,6 +8,7 @@ import { arrowsOf, pointArrows } from "./arrows.js";
 import { hintBeyond } from "./beyond.js";
 import { choose, theChoice } from "./choice.js";
 import { markOf, shadeOf, thicker, thickness, usualLength } from "./colourings.js";
+import { sizeDots } from "./dots.js";
 import { boxOf, partOf, parts, show } from "./drawing.js";
 import { at, onClick } from "./elements.js";
 import { isFaded } from "./filter.js";
@@ -164,6 +165,7 @@ function label(isGliding = false) {
     const by = thicker(usual * scale());
     at("picture").style.setProperty("--thicker", String(by));
     at("picture").style.setProperty("--scale", String(scale()));
+    sizeDots(usual * scale());
     pointArrows(arrows, scale(), by);
     hintBeyond(limits.map(([x, y]) => [(x - seenBox().x) * scale(), (y - seenBox().y) * scale()]), freePart(),
       at("picture").querySelector(".chosen")?.getBoundingClientRect());

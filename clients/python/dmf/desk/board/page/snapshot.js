@@ -10,8 +10,8 @@ import { fileName } from "./words.js";
 /** How many pixels of the file are one of the page. */
 const LARGER = 2;
 /** What the page's style sheet says about a part of the picture, which the file has to say itself. */
-const LOOKS = ["fill", "stroke", "stroke-width", "stroke-dasharray", "opacity", "visibility", "display", "paint-order", "font-family",
-  "font-size", "font-weight", "text-anchor", "text-decoration"];
+const LOOKS = ["fill", "stroke", "stroke-width", "stroke-dasharray", "opacity", "rx", "ry", "visibility", "display", "paint-order",
+  "font-family", "font-size", "font-weight", "text-anchor", "text-decoration"];
 
 /**
  * Returns a copy of the picture that looks the same without the page's style sheet.
@@ -29,8 +29,9 @@ function copyOf(shown) {
         it.setAttribute(name, looks.getPropertyValue(name).replace(/[\d.]+/g, (pixels) => String(Number(pixels) / scale())));
       }
     }
-    if (!(part instanceof SVGPolygonElement && part.parentElement instanceof SVGGElement)) continue;
-    // The arrows are sized by the style sheet.
+    const isSized = part instanceof SVGGraphicsElement && part.matches("polygon, .rim, .share");
+    if (!isSized || !(part.parentElement instanceof SVGGElement)) continue;
+    // Arrows, and what is drawn in dots, are sized by the style sheet.
     const by = part.parentElement.getScreenCTM()?.inverse().multiply(/** @type {DOMMatrix} */ (part.getScreenCTM()));
     if (by) it.setAttribute("transform", `matrix(${[by.a, by.b, by.c, by.d, by.e, by.f].join(" ")})`);
   }

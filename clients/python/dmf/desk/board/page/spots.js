@@ -5,7 +5,8 @@
  * @typedef {import("./ink.js").Ink} Ink
  * @typedef {{ ink: Ink, view: Edges, covers: Edges[], thicker: number }} Ground where lines run, the visible part and the cards over it, in
  *   pixels, and by what factor lines are thicker
- * @typedef {Ground & { taken: Boxes, places: Boxes }} Taken the same, with all boxes that are taken, and those of places
+ * @typedef {Ground & { taken: Boxes, places: Boxes, names: Boxes }} Taken the same, with all boxes that are taken, those of places, and
+ *   those of names and of the sources and sinks that are dots
  * @typedef {[number, number, boolean]} Place the middle of a label, and whether it is inside its own place
  */
 import { edges, isApart, isWithin, larger } from "./boxes.js";
@@ -20,7 +21,7 @@ const MISREAD = 4.5;
  * @param {Edges} box
  * @param {Ground} ground
  */
-function sight(box, { view, covers }) {
+export function sight(box, { view, covers }) {
   if (isApart(box, view)) return "unseen";
   if (!isWithin(box, view)) return "cut";
   const over = covers.find((cover) => !isApart(box, cover));
