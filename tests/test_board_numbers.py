@@ -111,7 +111,7 @@ def test_numbers(driver: Any, tmp_path: Path) -> None:
         page.wait(lambda: page.text("#what h3") == "Weir")
         told = {"Comes in": "55.5", "Goes out": "55.5", "What Weir lets through": "55.5 of 55.5"}
         assert {term: page.fact(term) for term in told} == told
-        assert page.text("#what .chips") == "bottleneck"
+        assert page.text("#what .chips") == "bottleneck: lets through all it can"
         for typed, value, step in (
             ("70,25", "62.65", "70.25"),
             ("-10 %", "62.65", "63.225"),
@@ -136,7 +136,7 @@ def test_numbers(driver: Any, tmp_path: Path) -> None:
         page.wait(lambda: "Mill gives at most 5.5 litres: 25.55" in page.text("#way"))
         page.settle()
         assert page.fact("What Mill gives at most") == "5.5 of 5.5"
-        assert page.text("#what .chips") == "a source bottleneck"
+        assert page.text("#what .chips") == "a source bottleneck: gives all it can"
         page.know_worth()
         worst = page.text("#worst-table tbody tr")
         assert worst.startswith("Side") and worst.endswith("20.05"), worst

@@ -5,12 +5,14 @@ from __future__ import annotations
 import re
 from pathlib import Path
 from typing import Any
+from xml.etree import ElementTree
 
 import pytest
 from board_pages import Page
 from board_running import board
 from desk_shared import ROOT
 from test_board_access import as_before, show
+from test_board_view import SVG
 
 pytestmark = pytest.mark.seconds(20)
 ROTA = str(ROOT / "examples/rota/rota.csv"), "--shift", "8", "--daily", "1"
@@ -65,12 +67,17 @@ def test_words(driver: Any) -> None:
             ["Shift", "gets", "short"],
         ]
         assert page.text("#worst-places-table thead").startswith("Person, day or shift")
-        for name, is_a in ("Cem", "a person"), ("Sun night", "a shift"), ("Cem on Fri", ""):
+        for name, is_a in (
+            ("Cem", "a person bottleneck: has no hours left"),
+            ("Fri early", "a shift fully staffed"),
+            ("Sun night", "a shift 8 short"),
+            ("Cem on Fri", ""),
+        ):
             page.write("#text", name)
             page.wait(lambda: page.text("#found button") == name)
             page.click("#found button")
             page.wait(lambda: page.text("#what h3") == name)
-            assert page.text("#what .chips").startswith(is_a)
+            assert page.text("#what .chips") == is_a
             judge_words(page)
         page.click("#what table button")
         page.wait(lambda: page.fact("Staffed") == "8 of 8")
@@ -104,3 +111,20 @@ def test_none_is_short(driver: Any, tmp_path: Path) -> None:
             assert (page.value(), page.text("#demands")) == (value, said)
             assert page.text("#limit-note").startswith(limit)
             driver.get("about:blank")
+
+
+def test_orange_is_what_lacks_something() -> None:
+    """In the picture an amount is in the colour of the bottleneck if too little arrives, or if it
+    is in the bottleneck and what is given; not if all arrives that is asked for."""
+    with board(*ROTA) as it:
+        root = ElementTree.fromstring(it.told("picture?near=")["svg"])
+        limit = {arc["label"] for arc in it.state()["limit"]}
+    assert "what Fri early takes at most" in limit and "what Cem gives at most" in limit
+    looks = {}
+    for group in root.iter(f"{SVG}g"):
+        name, *amounts = group.findall(f"{SVG}text") or [group]
+        looks.update({(name.text, it.text): it.get("class") for it in amounts})
+    assert looks["Fri early", "takes 16/16"] == ""
+    assert looks["Sun night", "takes 0/8"] == "short"
+    assert looks["Cem", "gives 16/16"] == "cut"
+    assert looks["Ida", "gives 8/16"] == ""

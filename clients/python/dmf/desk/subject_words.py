@@ -13,7 +13,8 @@ class PageWords(NamedTuple):
     """The sentences and titles that only a page has. `task` says what the value is, `picture` what
     the picture shows of it, `choose` what can be selected, and `without` when a place counts as
     lost; `short` is the title of what lacks something, and `met` says that nothing does; `source`
-    and `sink` say what a place is; `flow`, `idle` and `amount` are of a pipe that is selected, and
+    and `sink` say what a place is, and `all_given`, `all_taken` and `all_through` what its limit in
+    the bottleneck means; `flow`, `idle` and `amount` are of a pipe that is selected, and
     `legend` explains its numbers."""
 
     task: str
@@ -23,6 +24,9 @@ class PageWords(NamedTuple):
     met: str
     source: str
     sink: str
+    all_given: str
+    all_taken: str
+    all_through: str
     place: str
     without: str
     flow: str
@@ -63,6 +67,9 @@ NETWORK = Words(
         met="All demands are met.",
         source="source",
         sink="sink",
+        all_given="bottleneck: gives all it can",
+        all_taken="gets all it asks for",
+        all_through="bottleneck: lets through all it can",
         place="place",
         without="one of these places is shut",
         flow="Flow",
@@ -95,6 +102,9 @@ ROSTER = Words(
         met="All shifts are staffed.",
         source="person",
         sink="shift",
+        all_given="bottleneck: has no {measure} left",
+        all_taken="fully staffed",
+        all_through="bottleneck: cannot do more that day",
         place="person, day or shift",
         without="one of these is left out",
         flow="Staffed",

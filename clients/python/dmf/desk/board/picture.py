@@ -338,8 +338,11 @@ class Picture:
             # The first text is the name.
             for text, (number, words, _) in zip(group.findall(f"{{{SVG}}}text")[1:], it.roles):
                 text.text = f"{words} {_amounts(desk, number)}"
-                is_short = words == AT_PLACE[DEMAND] and _is_short(desk, number)
-                text.set("class", "short" if is_short else "cut" if number in cut else "")
+                is_demand = words == AT_PLACE[DEMAND]
+                is_short = is_demand and _is_short(desk, number)
+                # A place that gets all that it asks for lacks nothing, also in the bottleneck.
+                is_limit = number in cut and not is_demand
+                text.set("class", "short" if is_short else "cut" if is_limit else "")
                 label += f", {words} {spoken(desk, number, cut)}"
             is_cut = any(number in cut for number, *_ in it.roles)
             _mark(

@@ -37,7 +37,7 @@ def place_view(desk: Desk, node: int) -> Json:
         "entering": arc_views(desk, _widest(entering)),
         "leaving": arc_views(desk, _widest(leaving)),
         "more": [max(0, len(it) - MOST_THERE) for it in (entering, leaving)],
-        "roles": arc_views(desk, [number for number, _ in network.roles().get(place.entry, ())]),
+        "roles": _role_views(desk, place),
         "is_source": place.entry in network.sources,
         "is_sink": place.entry in network.sinks,
         "shut": bool(network.shut_nodes & set(place)),
@@ -45,6 +45,12 @@ def place_view(desk: Desk, node: int) -> Json:
         "side": node in desk.side(),
         **_place_worth(desk, place),
     }
+
+
+def _role_views(desk: Desk, place: Place) -> list[Json]:
+    """Return what a place gives, takes or lets through as arcs, each with which of these it is."""
+    kinds = dict(desk.network.roles().get(place.entry, ()))
+    return [{**arc, "kind": kinds[arc["number"]]} for arc in arc_views(desk, [*kinds])]
 
 
 def _widest(flows: dict[int, Quantity]) -> list[int]:

@@ -21,6 +21,7 @@ FORMS = 50, 70, 100, 140, 200, 280
 # hundredths of a point.
 DECIMALS, FARTHEST = 2, 10**8
 ON_MAP = "places lie as on the map, where none is moved"
+NAMELESS = "this place has no name of its own, by which it could be found again"
 UNSURE = (
     "an older version kept where places lie, perhaps as on a map: none is moved until all are laid "
     "out anew (Tidy)"
@@ -140,10 +141,11 @@ class Placement:
             found[node if node and is_given else name] = spot
         self.places.moved = found
 
-    def move(self, node: int, right: int, down: int, form: int) -> bool:
+    def move(self, node: int, right: int, down: int, form: int) -> str:
         """Put a place somewhere else, in hundredths of a point, in the picture for a window of this
-        form. If that is where it lay before it was moved, it counts as not moved. Return True if
-        the project keeps it. Raise a `DeskFault` if it cannot be moved, or could not be kept."""
+        form. If that is where it lay before it was moved, it counts as not moved. Return why the
+        project does not keep it, if there is one. Raise a `DeskFault` if it cannot be moved, or
+        could not be kept."""
         place = self._desk.network.names.place_of(node).entry
         told = self._desk.network.names.node(place)
         if self.why_fixed:
@@ -159,7 +161,7 @@ class Placement:
         self._keep_move(picture, name, None if is_home else spot)
         self._settle(picture)
         self.version += 1
-        return self._project is not None and isinstance(name, str)
+        return NAMELESS if self._project and not isinstance(name, str) else ""
 
     def _keep_move(self, picture: Picture, name: PlaceName, spot: Spot | None) -> None:
         """Write to the project where a place lies that is moved, or that it lies where it was laid

@@ -114,8 +114,8 @@ class Shown:
         """Put a place somewhere else in the picture, in hundredths of a point."""
         if turn != self.desk.turn:
             raise DeskFault(CHANGED)
-        is_kept = self.placement.move(node, right, down, form)
-        return {"kept": kept_view(self.desk, "")["kept_in"] if is_kept else ""}
+        why_not = self.placement.move(node, right, down, form)
+        return {"kept_in": kept_view(self.desk, "")["kept_in"], "why_not": why_not}
 
     def begin_layout(self, near: str, form: int, turn: int) -> Json:
         """Begin to lay out the picture anew for a window of this form: all of it, if it is not too

@@ -109,6 +109,7 @@ def words_view(desk: Desk) -> Json:
         "sink": network.told_sink,
         "arc": noun,
         "unit": f" {unit}" if unit else "",
+        "measure": unit or "time",
     }
     return {
         **{name: text.format(**filled) for name, text in words.page._asdict().items()},

@@ -36,8 +36,10 @@ function marks(place) {
   const end = place.is_source ? `${place.name === source ? "the" : "a"} ${words.source}`
     : place.is_sink && `${place.name === sink ? "the" : "a"} ${words.sink}`;
   const missing = short.find((it) => it.node === place.node)?.missing;
-  return chips([[end], [place.shut && "shut"], [missing ? `${missing} short` : false, "limit"],
-    [place.roles.some((role) => role.limit && !role.closed) && "bottleneck", "limit"]]);
+  // What is in a bottleneck is used up: a place that gets all that it asks for lacks nothing.
+  const full = place.roles.filter((role) => role.limit && !role.closed).map(({ kind }) => /** @type {[string, string]} */ (
+    kind === "demand" ? [words.all_taken, ""] : [kind === "supply" ? words.all_given : words.all_through, "limit"]));
+  return chips([[end], [place.shut && "shut"], [missing ? `${missing} short` : false, "limit"], ...full]);
 }
 
 /** @param {Place} place */

@@ -109,7 +109,8 @@ async function send(place, x, y, isUndone) {
     return;
   }
   if (!isUndone) before.push({ node: place.node, name: place.name, x: place.x, y: place.y });
-  news(`${place.name} ${isUndone ? "lies where it was before" : "was moved"}.${told.kept ? ` ${told.kept} keeps it.` : ""}`);
+  const { kept_in: file, why_not: why } = told, kept = !file ? "" : why ? ` ${file} does not keep it: ${why}.` : ` ${file} keeps it.`;
+  news(`${place.name} ${isUndone ? "lies where it was before" : "was moved"}.${kept}`);
   showUndo();
   await showPicture();
   flying.delete(place.node);

@@ -6,13 +6,14 @@
  *   unlimited: boolean, full: boolean, limit: boolean, without: string, lost: string }} Arc
  *   `way` is empty unless it leads both ways: ">" if it flows from tail to head, "<" if back, "-" if not at all; and `other_way` says what
  *   it can carry the other way, if that is something else; `there` and `back` are its capacities, if both ways are open
- * @typedef {{ node: number, name: string, in: string, out: string, roles: Arc[], is_source: boolean, is_sink: boolean, shut: boolean,
+ * @typedef {Arc & { kind: string }} Role what a place gives, takes or lets through at most, and which of these it is
+ * @typedef {{ node: number, name: string, in: string, out: string, roles: Role[], is_source: boolean, is_sink: boolean, shut: boolean,
  *   open: boolean, side: boolean, entering: Arc[], leaving: Arc[], more: [number, number], without: string, lost: string }} Place
  *   `more`: how many other arcs enter it, and leave it
  * @typedef {{ arc: string, task: string, picture: string, choose: string, short: string, met: string, source: string, sink: string,
- *   place: string, without: string, flow: string, idle: string, amount: string, legend: string, severed: string, crosses: string,
- *   crosses_one: string, carries: string, demand_titles: string[] }} Words the words for this network: of pipes and places, or of a
- *   roster's people and shifts
+ *   all_given: string, all_taken: string, all_through: string, place: string, without: string, flow: string, idle: string, amount: string,
+ *   legend: string, severed: string, crosses: string, crosses_one: string, carries: string, demand_titles: string[] }} Words the words for
+ *   this network: of pipes and places, or of a roster's people and shifts
  * @typedef {{ turn: number, title: string, unit: string, words: Words, notes: string[], source: string, sink: string, value: string,
  *   arcs: number, given: number, places: number, kept_in: string, scenario: string, why_not: string, floor: number,
  *   offer: string, flows_follow: boolean, at: number, by: string,
