@@ -5,6 +5,7 @@ from __future__ import annotations
 import json
 import shutil
 import statistics
+import time
 from pathlib import Path
 from random import Random
 from typing import Any
@@ -220,18 +221,22 @@ def test_many_fit_the_window(tmp_path: Path, form: int) -> None:
     assert 1 / 1.3 < wide / high / (form / 100) < 1.3
 
 
-def test_read_from_left_to_right(tmp_path: Path) -> None:
-    """Places that are spread out lie further to the right the more arcs they are away from the
-    source, though as many arcs lead downwards as to the right; the sink is at the other end."""
-    side = 12
+@pytest.mark.parametrize("form", [70, 140])
+def test_read_from_left_to_right(tmp_path: Path, form: int) -> None:
+    """Many places lie further to the right the more arcs they are away from the source, though as
+    many arcs lead downwards as to the right; the sink is at the other end."""
+    side = 21
     with board(grid_table(tmp_path, side)) as it:
-        found = ovals(it.told("picture?near=&form=140")["svg"])
-    right = {name: x for name, (x, *_) in found.items()}
-    columns = [
-        statistics.mean(right[f"P{row}_{column}"] for row in range(side)) for column in range(side)
-    ]
+        it.post("tidy", near="", form=form)
+        while json.loads(it.post("tidied")[1])["is_laying_out"]:
+            time.sleep(0.05)
+        ground = it.told("ground")
+    right, every = dict(zip(ground["names"], ground["right"])), range(side)
+    columns = [statistics.mean(right[f"P{row}_{column}"] for row in every) for column in every]
+    rows = [statistics.mean(right[f"P{row}_{column}"] for column in every) for row in every]
     assert columns == sorted(columns)
-    assert right["Lake"] < columns[1] and columns[-2] < right["Sea"]
+    assert max(rows) - min(rows) < (columns[-1] - columns[0]) / 3
+    assert right["Lake"] < columns[2] and columns[-3] < right["Sea"]
 
 
 def test_one_form_if_kept(tmp_path: Path) -> None:
