@@ -154,7 +154,7 @@ def test_short_place(driver: Any, tmp_path: Path) -> None:
         assert page.text("#what .chips") == "a sink 70 short"
         assert judge_rows(page)["What Brook takes at most"] == "110 of 180"
         find(page, "Weir")
-        assert page.text("#what .chips") == "a sink bottleneck"
+        assert page.text("#what .chips") == "a sink gets all it asks for"
         assert judge_rows(page)["What Weir takes at most"] == "50 of 50"
         as_before(driver)
 

@@ -285,6 +285,7 @@ def test_addresses(driver: Any, water: Board) -> None:
     page.wait(lambda: driver.current_url.endswith("#scenario=first&arc=9&one=first&two=Pipe"))
     driver.back()
     page.wait(lambda: not driver.find_element("id", "compared-shown").is_displayed())
+    assert driver.find_element("id", "foot").is_displayed()
     driver.back()
     page.wait(lambda: page.present() == "Pipe" and page.value() == 180)
     driver.forward()
@@ -455,6 +456,8 @@ def test_it_fits(driver: Any, water: Board, writes: bool) -> None:
         assert min(driver.execute_script(heights)) >= 11
         count, wrong = driver.execute_script(COMPARED)
         assert count > 15 and wrong == [], wrong[:5]
+        # Nothing of the legend's card shows behind its corners.
+        assert not driver.find_element("id", "foot").is_displayed()
     # In a window of this height nothing has to be scrolled to.
     driver.execute_cdp_cmd(
         "Emulation.setDeviceMetricsOverride",
