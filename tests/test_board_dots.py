@@ -14,7 +14,8 @@ from board_pages import Page
 from board_running import Board, board
 from desk_shared import PIPES
 from test_board_access import as_before, show
-from test_board_view import SVG, grid_table
+from test_board_ground import city
+from test_board_view import SCALE, SVG, grid_table
 
 pytestmark = pytest.mark.seconds(20)
 # What each place of the town takes at most. Each pipe to one carries 20, so that much arrives.
@@ -37,6 +38,14 @@ return Object.fromEntries([...document.querySelectorAll("#picture .node[data-end
 """
 # Goes on once a change of the view is drawn.
 DRAWN = "requestAnimationFrame(() => requestAnimationFrame(arguments[0]))"
+# How many places in the middle of the window are named, and how many are seen there.
+NAMED = """
+const seen = [...document.querySelectorAll("#picture .node")].filter((it) => {
+  const { left, right, top, bottom } = it.querySelector("ellipse").getBoundingClientRect();
+  return left > 80 && right < 740 && top > 150 && bottom < 600;
+});
+return [seen.filter((it) => it.querySelector("text").checkVisibility()).length, seen.length];
+"""
 # Names that are not shown of sources and sinks; and the names that a line to another name crosses.
 UNNAMED = """
 return [...document.querySelectorAll("#picture .node[data-end].unlabelled")].map((it) => it.id);
@@ -176,3 +185,18 @@ def test_thin_lines(driver: Any, tmp_path: Path, seed: int) -> None:
             count, crossed = driver.execute_script(CROSSED)
             assert count >= 2 and crossed == []
             as_before(driver)
+
+
+def test_names_beside_thick_lines(driver: Any, tmp_path: Path) -> None:
+    """Where lines are long enough, most places that are drawn in front on a map are named, though
+    four thick lines lead to each."""
+    with board(*city(tmp_path, 18)) as it:
+        show(driver, 1280, "light")
+        page = Page(driver, it.address)
+        while driver.execute_script(SCALE) < 0.7:
+            page.press("Larger")
+            driver.execute_async_script(DRAWN)
+        page.wait(lambda: driver.execute_script(NAMED)[1] > 20)
+        named, seen = driver.execute_script(NAMED)
+        assert named > 0.7 * seen
+        as_before(driver)

@@ -143,7 +143,7 @@ def test_place(driver: Any, width: int) -> None:
 
 
 def test_short_place(driver: Any, tmp_path: Path) -> None:
-    """A place says how much it lacks, and a place that has all says nothing of that."""
+    """A place says how much it lacks, or that it gets all it asks for."""
     (tmp_path / "pipes.csv").write_text("from,to,l/s\nSpring,Brook,110\nSpring,Weir,70\n")
     (tmp_path / "asked.csv").write_text("place,demand\nBrook,180\nWeir,50\n")
     words = ["--source", "Spring", "--sinks", f"{tmp_path}/asked.csv", f"{tmp_path}/pipes.csv"]

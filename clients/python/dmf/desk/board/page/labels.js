@@ -210,7 +210,7 @@ function spots(label, right, down, scale, half) {
   const isIn = Math.max(right / ovalRight, down / ovalDown) < 1 && (right / ovalRight) ** 2 + (down / ovalDown) ** 2 <= FILLED;
   if (isIn) return [[x * scale, y * scale, true]];
   return AROUND.map(([along, below]) => [oval.x * scale + along * (ovalRight + right + APART),
-    oval.y * scale + below * (ovalDown + down + (along ? 0 : APART)), false]);
+    oval.y * scale + below * (ovalDown + down + (along && !oval.isDot ? 0 : APART)), false]);
 }
 
 /**
