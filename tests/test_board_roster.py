@@ -63,7 +63,7 @@ def test_words(driver: Any) -> None:
             "most. To raise only others brings nothing. Before them: "
         )
         assert [page.text(f"#{it}-table thead").split() for it in ("limit", "short")] == [
-            ["Connection", "allows", "at", "most"],
+            ["Connection", "allows"],
             ["Shift", "gets", "short"],
         ]
         assert page.text("#worst-places-table thead").startswith("Person, day or shift")

@@ -14,8 +14,8 @@ class PageWords(NamedTuple):
     the picture shows of it, `choose` what can be selected, and `without` when a place counts as
     lost; `short` is the title of what lacks something, and `met` says that nothing does; `source`
     and `sink` say what a place is, and `all_given`, `all_taken` and `all_through` what its limit in
-    the bottleneck means; `flow`, `idle` and `amount` are of a pipe that is selected, and
-    `legend` explains its numbers."""
+    the bottleneck means; `most` is the title of what parts of the bottleneck carry, `flow`, `idle`
+    and `amount` are of a pipe that is selected, and `legend` explains its numbers."""
 
     task: str
     picture: str
@@ -29,6 +29,7 @@ class PageWords(NamedTuple):
     all_through: str
     place: str
     without: str
+    most: str
     flow: str
     idle: str
     amount: str
@@ -72,6 +73,7 @@ NETWORK = Words(
         all_through="bottleneck: lets through all it can",
         place="place",
         without="one of these places is shut",
+        most="carries",
         flow="Flow",
         idle="nothing flows",
         amount="What it can carry",
@@ -107,6 +109,7 @@ ROSTER = Words(
         all_through="bottleneck: cannot do more that day",
         place="person, day or shift",
         without="one of these is left out",
+        most="allows",
         flow="Staffed",
         idle="not taken",
         amount="What it allows",

@@ -117,7 +117,6 @@ def words_view(desk: Desk) -> Json:
         "severed": words.severed.format(**filled),
         "crosses": words.crosses,
         "crosses_one": words.crosses_one,
-        "carries": words.carries,
         "demand_titles": words.demand_titles,
     }
 

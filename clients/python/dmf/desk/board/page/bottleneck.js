@@ -33,7 +33,7 @@ function show(seconds) {
   at("seconds").hidden = !limit.length;
   at("seconds").textContent = seconds && !seconds.isOver ? "Stop" : "What would a second one bring?";
   at("seconds-told").textContent = seconds ? verdict(seconds, limit.length) : "";
-  fill("limit-table", caption(), [upper(noun()), wording().carries, ...(seconds ? ["a second one brings"] : [])], limit.map((arc) => [
+  fill("limit-table", caption(), [upper(noun()), wording().most, ...(seconds ? ["a second one brings"] : [])], limit.map((arc) => [
     pick(arc), numberCell(arc.capacity), ...(seconds ? [numberCell(brings(seconds.found.get(arc.number)))] : [])]));
 }
 

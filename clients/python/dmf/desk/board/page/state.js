@@ -11,8 +11,8 @@
  *   open: boolean, side: boolean, entering: Arc[], leaving: Arc[], more: [number, number], without: string, lost: string }} Place
  *   `more`: how many other arcs enter it, and leave it
  * @typedef {{ arc: string, task: string, picture: string, choose: string, short: string, met: string, source: string, sink: string,
- *   all_given: string, all_taken: string, all_through: string, place: string, without: string, flow: string, idle: string, amount: string,
- *   legend: string, severed: string, crosses: string, crosses_one: string, carries: string, demand_titles: string[] }} Words the words for
+ *   all_given: string, all_taken: string, all_through: string, place: string, without: string, most: string, flow: string, idle: string,
+ *   amount: string, legend: string, severed: string, crosses: string, crosses_one: string, demand_titles: string[] }} Words the words for
  *   this network: of pipes and places, or of a roster's people and shifts
  * @typedef {{ turn: number, title: string, unit: string, words: Words, notes: string[], source: string, sink: string, value: string,
  *   arcs: number, given: number, places: number, kept_in: string, scenario: string, why_not: string, floor: number,
