@@ -14,7 +14,7 @@ from board_pages import Page
 from board_running import Board, board
 from desk_shared import PIPES
 from test_board_access import as_before, show
-from test_board_ground import city
+from test_board_ground import PIXELS, city
 from test_board_view import SCALE, SVG, grid_table
 
 pytestmark = pytest.mark.seconds(20)
@@ -200,3 +200,20 @@ def test_names_beside_thick_lines(driver: Any, tmp_path: Path) -> None:
         named, seen = driver.execute_script(NAMED)
         assert named > 0.7 * seen
         as_before(driver)
+
+
+def test_from_far_away(driver: Any, tmp_path: Path) -> None:
+    """A map that is seen whole has the same shapes: the sink, to which all flows, is a whole disc,
+    and the source a square with a bar below its middle, in the colour of what is before the
+    bottleneck."""
+    with board(*city(tmp_path, 18)) as it:
+        show(driver, 1280, "light")
+        page = Page(driver, it.address)
+        page.settle()
+        ground = it.told("ground")
+        lake, sea = (ground["nodes"][ground["names"].index(name)] for name in ("Lake", "Sea"))
+        assert driver.execute_script(SCALE) < 0.3
+        disc = driver.execute_script(PIXELS, [sea], ground)
+        assert disc == [[27, 27, 27]] * 25
+        square = driver.execute_script(PIXELS, [lake], ground)
+        assert square[:5] == [[211, 228, 245]] * 5 and square[-5:] == [[27, 27, 27]] * 5
