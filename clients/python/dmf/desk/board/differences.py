@@ -29,8 +29,10 @@ from ..project.scenarios import project_of
 from ..workspace import Desk
 from .arrows import SVG, turn_arrow
 from .layout import NoPicture, Places
-from .picture import DrawnArc, DrawnNode, Picture, Shape, marked, written
+from .picture import Picture
 from .responses import Json, WrongForm
+from .shapes import DrawnArc, DrawnNode, Shape
+from .svg import marked, written
 
 MORE, LESS, SAME = "#0b5394", "#a84300", "#767676"
 STYLE = f"""
