@@ -16,7 +16,7 @@ import dmf
 import pytest
 from desk_shared import PIPES, ROOT, greatest, water, without
 from dmf.desk.answers import Answers
-from dmf.desk.project.storage import journal_of
+from dmf.desk.project.journal import journal_of
 
 # Each call, with what it asks the session.
 CALLS: dict[str, tuple[Callable[[Any], object], tuple[str, ...]]] = {

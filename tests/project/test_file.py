@@ -13,9 +13,10 @@ from typing import Any
 
 import pytest
 from dmf.desk.project import storage as project_file
+from dmf.desk.project.journal import journal_of
 from dmf.desk.project.records import Scenario
 from dmf.desk.project.schema import parse_project, said_scenario, said_step, text_of
-from dmf.desk.project.storage import MOST_VERSIONS, created, journal_of, opened, versions_of
+from dmf.desk.project.storage import MOST_VERSIONS, created, opened, versions_of
 from dmf.desk.project.strict_json import ProjectFault
 from dmf.files import write_file
 from project_files import STEP, a_project, begun, keep, left, made_project, refused

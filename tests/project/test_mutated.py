@@ -14,8 +14,9 @@ from typing import Any
 import dmf
 import pytest
 from desk_shared import run
+from dmf.desk.project.journal import journal_of
 from dmf.desk.project.scenarios import project_of
-from dmf.desk.project.storage import journal_of, opened
+from dmf.desk.project.storage import opened
 from project_files import begun, left, made_project
 from project_shared import named, water_project
 

@@ -146,8 +146,8 @@ def _how_to_open(path: str) -> str:
 def close_desk(name: str, desk: Desk) -> None:
     """Close the desk of the tool with this name. Raises a `ToolFault` if its project cannot be
     written."""
+    from ..desk.project.journal import journal_of
     from ..desk.project.scenarios import Scenarios
-    from ..desk.project.storage import journal_of
 
     project = Scenarios.of(desk)
     try:
