@@ -17,15 +17,15 @@ from unittest.mock import patch
 import pytest
 from dmf.errors import TableFault
 from dmf.tables import csv_file as file
+from dmf.tables import lone_ends
 from dmf.tables import numpy_rows as spans
-from dmf.tables import problem_builder
 from dmf.tables import readers as numbered
 from dmf.tables import warnings
 from dmf.tables.arcs_and_places import read_arcs
 from dmf.tables.csv_file import Block
+from dmf.tables.lone_ends import ends_alone
 from dmf.tables.numpy_rows import Spans, first_alike, spans_of
 from dmf.tables.plain_numbers import Plain, plain_of
-from dmf.tables.problem_builder import ends_alone
 from dmf.tables.readers import Numbers, are_plain, name_of
 from dmf.tables.sheet import Rows
 from dmf.tables.table_file import ReadOptions
@@ -420,7 +420,7 @@ def test_ends_and_rows(rows: list[tuple[int, int, int]], by_numpy: bool) -> None
         array(code, [row[place] for row in rows]) for place, code in enumerate("IIQ")
     )
     with ExitStack() as stack:
-        for module in problem_builder, warnings:
+        for module in lone_ends, warnings:
             stack.enter_context(
                 patch.object(
                     module, "numpy_for", lambda _: import_module("numpy") if by_numpy else None

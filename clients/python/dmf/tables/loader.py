@@ -20,12 +20,13 @@ from ..text.problem_text import problem_in
 from ..text.spelling import quoted_name
 from ..text.table_comments import TableComments, described, table_comments
 from .arcs_and_places import read_arcs, read_places, terms_of
+from .built_problem import BuiltProblem, problem_text
 from .file_kinds import FileKind, has_table, kind_of, refuse_settings, sheets_of
 from .headings import PLACE_COLUMNS, STATES, spoken
 from .matrix_arcs import matrix_tables
 from .missing_ends import complete
 from .other_columns import Extra, extra_in, extra_of, left_out
-from .problem_builder import KINDS, BuiltProblem, NetworkTables, net_of, problem_text, term_of
+from .problem_builder import KINDS, NetworkTables, net_of, term_of
 from .readers import Table
 from .roster_arcs import roster_tables
 from .row_states import lead

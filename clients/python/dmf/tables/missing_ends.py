@@ -7,7 +7,8 @@ from ..errors import TableFault
 from ..text.lexical import display
 from ..text.spelling import MOST_TOLD, quoted_name
 from .arcs_and_places import Term
-from .problem_builder import KINDS, NetworkTables, ends_alone
+from .lone_ends import ends_alone
+from .problem_builder import KINDS, NetworkTables
 from .titles import DEMAND, SUPPLY
 
 

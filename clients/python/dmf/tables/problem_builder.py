@@ -15,53 +15,24 @@ their rows. After them stand inner nodes and arcs, which are not of the table:
 from __future__ import annotations
 
 from array import array
-from collections.abc import Hashable, Iterable, Iterator, Sequence
+from collections.abc import Sequence
 from dataclasses import dataclass, field
 from decimal import Decimal
-from itertools import chain, compress
-from operator import eq, ne
-from typing import Any, Optional
+from itertools import chain
+from typing import Optional
 
 from ..errors import TableFault
 from ..quantity import COMMA, LARGEST, Measure, QuantityFault, decimals, number_in, plain_text
-from ..session.base import ProblemColumns, numpy_for
 from ..text.both_ways import TwoWayArcs
 from ..text.lexical import AMOUNTS, NODES
 from ..text.spelling import cleaned, near, quoted_name
-from ..text.table_comments import SINKS, SOURCES, Role, TableComments, table_comments
+from ..text.table_comments import SINKS, SOURCES, Role, TableComments
 from .arcs_and_places import Heading, Term
+from .built_problem import BuiltProblem
 from .headings import ARCS, PLACE_COLUMNS
-from .other_columns import Extra
 from .readers import Table
 from .sheet import MOST_FAULTS, Faults
 from .titles import DEMAND, LIMIT, SUPPLY
-
-
-def ends_alone(tails: Sequence[int], heads: Sequence[int]) -> tuple[list[int], list[int]]:
-    """Return the places that arcs leave and none enters, and those that arcs enter and none leaves,
-    in the order of the arcs. Arcs from a place to itself do not count."""
-    np = numpy_for(len(tails))
-    if np is not None and isinstance(tails, array) and isinstance(heads, array):
-        left, entered = (np.frombuffer(column, column.typecode) for column in (tails, heads))
-        is_way = left != entered
-        left, entered = left[is_way], entered[is_way]
-        return _without(np, left, entered), _without(np, entered, left)
-    if any(map(eq, tails, heads)):
-        tails, heads = (list(compress(column, map(ne, tails, heads))) for column in (tails, heads))
-    first, last = dict.fromkeys(tails), dict.fromkeys(heads)
-    return [place for place in first if place not in last], [
-        place for place in last if place not in first
-    ]
-
-
-def _without(np: Any, places: Any, others: Any) -> list[int]:
-    """Return the places that are not among the others, each once, in their order."""
-    is_other = np.zeros(max(places.max(initial=0), others.max(initial=0)) + 1, bool)
-    is_other[others] = True
-    alone, begins = np.unique(places[~is_other[places]], return_index=True)
-    found: list[int] = alone[np.argsort(begins)].tolist()
-    return found
-
 
 MOST_NODES = 16_777_216
 MOST_ARCS = 134_217_728
@@ -106,51 +77,6 @@ class NetworkTables:
         scale = Decimal(10) ** most if self.scale is None else self.scale
         table = "" if self.arcs.path.startswith("/dev/") else self.arcs.path.rpartition("/")[2]
         return Measure(scale, amounts.unit, table, amounts.sign if amounts.sign == COMMA else "")
-
-
-@dataclass
-class BuiltProblem:
-    """The network of a table, by numbers from 1 on: the names of the nodes, of which `place_count`
-    are places; the ends and capacities of the arcs, of which the first `row_count` belong to rows,
-    `ways` to each; the names of the rows, if they have any, and of the other arcs; and the comments
-    about the table."""
-
-    node_names: list[str]
-    tails: array[int]
-    heads: array[int]
-    capacities: array[int]
-    labels: Sequence[str]
-    ways: int
-    inner_names: dict[int, str]
-    described: TableComments
-    source: int = 0
-    sink: int = 0
-    place_count: int = 0
-    row_count: int = 0
-
-    def row_names(self) -> dict[int, str]:
-        """Return the names of the arcs of rows that have one, by number."""
-        names: Iterable[str] = self.labels
-        if self.ways > 1:
-            names = (name for name in self.labels for _ in range(self.ways))
-        return {number: name for number, name in enumerate(names, 1) if name}
-
-    def row_name(self, number: int) -> Optional[str]:
-        """Return the name of an arc, if it belongs to a row that has one."""
-        place = (number - 1) // self.ways
-        return self.labels[place] or None if place < len(self.labels) else None
-
-    def arc_names(self) -> dict[int, Hashable]:
-        """Return the names of all arcs that have one, by number."""
-        names: dict[int, Any] = self.row_names()
-        names.update(self.inner_names)
-        return names
-
-    @property
-    def columns(self) -> ProblemColumns:
-        """The problem without names."""
-        ends = self.source, self.sink
-        return ProblemColumns(len(self.node_names), *ends, self.tails, self.heads, self.capacities)
 
 
 def too_much(measure: Measure) -> str:
@@ -431,35 +357,3 @@ def term_of(kind: str, word: str, table: Table) -> Term:
         raise TableFault(
             f"the limit {quoted_name(limit.strip())} of {quoted_name(place.rstrip())} {fault}"
         ) from None
-
-
-# How many lines are made at once.
-PIECE = 1 << 11
-
-
-def problem_text(net: BuiltProblem, extra: Extra = Extra()) -> str:
-    """Return the problem, with what it is, its names and these columns in comments."""
-    arc_names = (
-        _lines("c arc %d %s\n", [*named], [*named.values()])
-        for named in (net.row_names(), net.inner_names)
-    )
-    head = f"p max {len(net.node_names)} {len(net.tails)}\nn {net.source} s\nn {net.sink} t\n"
-    return "".join(
-        chain(
-            [table_comments(net.described)],
-            _lines("c node %d %s\n", range(1, len(net.node_names) + 1), net.node_names),
-            *arc_names,
-            [extra.comments(range(1, net.row_count + 1)), head],
-            _lines("a %d %d %d\n", net.tails, net.heads, net.capacities),
-        )
-    )
-
-
-def _lines(form: str, *columns: Sequence[object]) -> Iterator[str]:
-    """Yield pieces of lines of a form, each with a field of each column."""
-    for begin in range(0, len(columns[0]), PIECE):
-        pieces = [column[begin : begin + PIECE] for column in columns]
-        fields: list[object] = [None] * (len(columns) * len(pieces[0]))
-        for place, piece in enumerate(pieces):
-            fields[place :: len(columns)] = piece
-        yield form * len(pieces[0]) % tuple(fields)

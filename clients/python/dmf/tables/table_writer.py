@@ -13,8 +13,8 @@ from typing import NamedTuple
 from ..quantity import EXACT, Measure, Quantity, magnitude
 from ..text.spelling import cleaned
 from ..text.table_comments import DEMAND, LIMIT, SUPPLY, TableRoles
+from .lone_ends import ends_alone
 from .other_columns import Extra
-from .problem_builder import ends_alone
 from .sheet import OPEN_NUMBER, UNLIMITED, cell_of, lines, number_cell, text_cell
 
 # The title of the column that says which arcs lead both ways.

@@ -14,8 +14,10 @@ from typing import Any
 
 from ..session.base import numpy_for
 from ..text.spelling import MOST_TOLD, cleaned, near, quoted_name
+from .built_problem import BuiltProblem
 from .headings import ARCS
-from .problem_builder import BuiltProblem, NetworkTables, ends_alone
+from .lone_ends import ends_alone
+from .problem_builder import NetworkTables
 from .sheet import called_row
 from .titles import DEMAND, SUPPLY
 

@@ -62,9 +62,10 @@ def main() -> int:
     reader = parser()
     words = parsed(reader, sys.argv[1:])
     # A help needs nothing that reads tables.
+    from ..tables.built_problem import problem_text
     from ..tables.loader import data_of, load_tables, wanted_of
     from ..tables.other_columns import extra_of
-    from ..tables.problem_builder import net_of, problem_text
+    from ..tables.problem_builder import net_of
     from ..tables.setting_question import answered
     from ..tables.warnings import warnings
 
