@@ -119,8 +119,7 @@ class SessionHolder(Generic[Node]):
         if is_in_call:
             raise UsedByTwoThreads(
                 "used by two threads at once: each needs a network of its own, or a lock around "
-                "its "
-                "calls"
+                "its calls"
             ) from None
         self._is_broken = self._is_broken or not self._session.end.alive
 

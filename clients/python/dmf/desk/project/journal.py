@@ -137,9 +137,7 @@ def with_journal(path: str, journal: bytes, project: Project) -> tuple[Project, 
     if not lines and not Journal.is_begun(rest, project.identity):
         raise ProjectFault(
             f"{journal_of(path)} is not a journal of this project; move it away to open the file "
-            "as "
-            "it "
-            "is"
+            "as it is"
         )
     count = 0
     for at, line in enumerate(lines, 1):

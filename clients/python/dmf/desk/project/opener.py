@@ -379,8 +379,7 @@ def keep_project(path: str, words: argparse.Namespace, desk: Desk, program: Prog
     except FileExistsError as error:
         raise DeskFault(
             f"{quoted_name(base.subject.path)} cannot be made: {error.strerror}; open it, or "
-            "choose "
-            "another name"
+            "choose another name"
         ) from None
     except OSError as error:
         raise DeskFault(
