@@ -21,7 +21,6 @@ from ..quantity import EXACT, LARGEST, Quantity, QuantityFault, magnitude, numbe
 from ..sweeps.cases import SweepResult, sweep
 from ..tables.titles import title_of
 from ..text.spelling import quoted_name
-from .consequences import following
 from .steps import DeskFault, Node, Second, Trial
 from .workspace import Desk
 from .worth import judge_greatest, losses
@@ -83,7 +82,7 @@ def _second_case(desk: Desk, number: int) -> list[tuple[object, ...]]:
         ("add", network.node_of(add.tail), network.node_of(add.head), whole(add.capacity))
         for add in added
     ]
-    follow = following(network, added)
+    follow = network.following(added)
     return [*adds, *(("cap", network.handle(it.arc), whole(it.capacity)) for it in follow)]
 
 
@@ -92,7 +91,7 @@ def _second_size(desk: Desk, number: int) -> int:
     network, whole = desk.network, desk.network.measure.whole
     added = network.second(number)
     return sum(whole(add.capacity) for add in added) + sum(
-        whole(it.capacity) - network.whole(it.arc) for it in following(network, added)
+        whole(it.capacity) - network.whole(it.arc) for it in network.following(added)
     )
 
 

@@ -13,7 +13,6 @@ from ..quantity import Quantity, moved
 from ..session.base import Part, ProblemColumns, Program, ValuesWithout
 from ..tables.loader import LoadedProblem
 from ..tables.problem_networks import network_of_subject
-from .consequences import opened_places
 from .network_arcs import NetworkArcs
 from .steps import Add, Change, Close, Follow, MakePlace, Marks, Node, Reopen, Shut, Solve, Step
 
@@ -132,7 +131,7 @@ class LiveNetwork(NetworkArcs):
             self._is_moving = False
             raise
         if self.marks.shut:
-            opened = opened_places(self, changes)
+            opened = self._opened_places(changes)
             self.marks = self.marks._replace(shut=self.marks.shut - opened)
         self._mark(self.marks)
         self._is_moving = False

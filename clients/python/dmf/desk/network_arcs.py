@@ -15,7 +15,7 @@ from typing import Any
 
 from .. import history as session
 from ..arcs import Arc
-from ..quantity import Measure, Quantity, plain_text
+from ..quantity import EXACT, Measure, Quantity, plain_text
 from ..state import NetworkState
 from ..tables.loader import LoadedProblem
 from ..text.lexical import NODE
@@ -24,7 +24,19 @@ from ..text.table_comments import Role, TableRoles
 from .arc_lines import ArcLines
 from .directory import Directory
 from .pipes import Pipe, Pipes, TwoWayPipe, amounts
-from .steps import Add, DeskArc, DeskFault, MakePlace, Marks, Node, Place
+from .steps import (
+    Add,
+    Cap,
+    Change,
+    DeskArc,
+    DeskFault,
+    Follow,
+    MakePlace,
+    Marks,
+    Node,
+    Place,
+    Reopen,
+)
 
 
 class NetworkArcs:
@@ -296,6 +308,67 @@ class NetworkArcs:
         """Return the arc that replaced one when it was opened again."""
         first = self.lines[number - 1].first or number
         return max(other for other, it in enumerate(self.lines, 1) if it.first == first)
+
+    def following(self, changes: Iterable[Change]) -> list[Follow]:
+        """Return what changes with these: an unlimited source gives as much as the arcs there carry
+        then, and a sink takes as much."""
+        if not self.folding.has_unlimited:
+            return []
+        more: dict[tuple[int, int], Quantity] = {}
+        for change in changes:
+            if isinstance(change, Add):
+                ends, by = (change.tail, change.head), change.capacity
+            elif isinstance(change, (Cap, Reopen)):
+                line = self.lines[change.arc - 1]
+                ends, by = line[:2], line.capacity
+                if isinstance(change, Cap):
+                    by = EXACT.subtract(change.capacity, line.capacity)
+            else:
+                continue
+            more[ends] = EXACT.add(more.get(ends, 0), by)
+        found = []
+        for number, role in self._unlimited(more):
+            arcs = [line[:3] for _, line in self.opened()] + [
+                (*ends, by) for ends, by in more.items()
+            ]
+            carried = self._sum(
+                capacity for tail, head, capacity in arcs if self.folding.at_role(role, tail, head)
+            )
+            if carried > self.lines[number - 1].capacity:
+                found.append(Follow(number, carried))
+        return found
+
+    def _unlimited(self, ends: Iterable[tuple[int, int]]) -> Iterator[tuple[int, Role]]:
+        """Yield the open arcs of the unlimited sources and sinks at which arcs with such ends
+        are."""
+        wanted = list(ends)
+        added = range(self.first_count + 1, len(self.lines) + 1)
+        for number in chain(self.subject.described.roles, added):
+            line, role = self.lines[number - 1], self.role(number)
+            if role and line.is_unlimited and not line.is_closed:
+                if any(self.folding.at_role(role, *those) for those in wanted):
+                    yield number, role
+
+    def _sum(self, amounts: Iterable[Quantity]) -> Quantity:
+        total: Quantity = 0
+        for amount in amounts:
+            total = EXACT.add(total, amount)
+        return self.taken(total)
+
+    def _opened_places(self, changes: Iterable[Change]) -> set[int]:
+        """Return the shut places whose arcs these changes opened again, all but those to other shut
+        places."""
+        ends = (self.lines[it.arc - 1][:2] for it in changes if isinstance(it, Reopen))
+        opened = {node for nodes in ends for node in nodes if node in self.shut_nodes}
+        left = set()
+        for line in self.lines if opened else ():
+            if line.is_shut and line.is_closed:
+                left |= {
+                    node
+                    for node in line[:2]
+                    if node in opened and not self.shut_nodes & {*line[:2]} - {node}
+                }
+        return opened - left
 
     # Updates after a change.
 

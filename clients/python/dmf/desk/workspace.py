@@ -28,7 +28,6 @@ from ..session.base import Program
 from ..tables.loader import LoadedProblem
 from ..text.spelling import quoted_name
 from .answers import Answers, FirstAnswer, Limit
-from .consequences import following
 from .desk_state import DeskState, Keeper
 from .live_network import LiveNetwork
 from .pipes import TwoWayPipe
@@ -443,7 +442,7 @@ class Desk:
         network = state.network if state else self.network
         before = state or self.state
         requests = self.keeper.requests(network, changes) if self.keeper else None
-        wanted = [*changes, *following(network, changes)]
+        wanted = [*changes, *network.following(changes)]
         solve = [Solve()] * (self.with_solve and wanted != [Solve()])
         try:
             steps = network.extend(before.done, text, (*wanted, *solve))
