@@ -204,6 +204,22 @@ def test_drawn(driver: Any, tmp_path: Path, request: pytest.FixtureRequest, side
         driver.get("about:blank")
 
 
+def test_wide_again(driver: Any, tmp_path: Path) -> None:
+    """A view that has moved in shows what is near its middle, and a wide one what is near the
+    bottleneck again."""
+    with board(*city(tmp_path, 32)) as it:
+        page = Page(driver, it.address)
+        limit = f"#arc-{it.state()['limit'][0]['number']}"
+        for _ in range(9):
+            page.press("Larger")
+        page.wait(lambda: driver.find_element("id", "near-limit").is_displayed())
+        page.wait(lambda: not driver.find_elements("css selector", limit))
+        driver.find_element("id", "picture").send_keys("0")
+        page.wait(lambda: driver.find_elements("css selector", limit))
+        assert not driver.find_element("id", "near-limit").is_displayed()
+        driver.get("about:blank")
+
+
 INK = """
 const canvas = document.getElementById("ground");
 if (canvas.hidden) return 0;

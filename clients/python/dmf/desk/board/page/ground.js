@@ -228,9 +228,12 @@ export function nextPlace(node, [right, down]) {
   return best;
 }
 
+/** Returns true if all is drawn, and the view is too wide for names to be read. */
+export const isFar = () => isGround() && scale() < NAMES;
+
 /** Returns the place in the middle of the view, if names can be read there and the picture lacks some places around it. */
 export function middlePlace() {
-  if (scale() < NAMES || !isGround()) return null;
+  if (isFar() || !isGround()) return null;
   const box = freeBox(), [x, y] = [box.x + box.width / 2, box.y + box.height / 2];
   let best = null, least = Infinity, isWhole = true;
   for (const place of places.values()) {

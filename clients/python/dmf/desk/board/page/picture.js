@@ -13,7 +13,7 @@ import { boxOf, partOf, parts, show } from "./drawing.js";
 import { at, onClick } from "./elements.js";
 import { isFaded } from "./filter.js";
 import { setWhole } from "./gliding.js";
-import { chooseNear, ground, groundBox, isGround, isOfLimit, lookAtGround, middlePlace, setBefore } from "./ground.js";
+import { chooseNear, ground, groundBox, isFar, isGround, isOfLimit, lookAtGround, middlePlace, setBefore } from "./ground.js";
 import { holdChoice } from "./holding.js";
 import { labelsOf } from "./labels.js";
 import { markAt, setMarks, shades } from "./legend.js";
@@ -34,6 +34,8 @@ const STILL = 300, QUICK = 60;
 let asked = 0, count = 0, pending = 0, moving = 0, form = 0;
 /** The place around which the picture should be, or an empty text for the bottleneck; and the one around which it is. */
 let near = "", nearShown = "none";
+/** Whether the picture is around a place because the view has moved there. */
+let isFollowing = false;
 /** @type {Label[]} */
 let labels = [];
 /** The usual length of lines, in units of the picture. */
@@ -47,14 +49,22 @@ let limits = [];
 export const isPart = () => count < present().arcs;
 
 /**
- * Shows what is near a place.
- * @param {number} node
+ * Shows what is near a place, or near the bottleneck.
+ * @param {number | ""} node
  * @param {boolean} isMoved whether the view has moved there already
  */
 export function showNear(node, isMoved = false) {
   near = String(node);
+  isFollowing = isMoved && Boolean(near);
   if (isMoved) nearShown = near;
   return showPicture();
+}
+
+/** Shows what is near the middle of the view, and what is near the bottleneck once the view is wide again. */
+function follow() {
+  const node = middlePlace();
+  if (node && String(node) !== near) showNear(node, true);
+  else if (isFollowing && isFar()) showNear("", true);
 }
 
 /** Shows the picture for another form of the window. Only then, since no other change moves a place. */
@@ -173,10 +183,7 @@ function label(isGliding = false) {
     paint();
   });
   clearTimeout(moving);
-  moving = setTimeout(() => {
-    const node = middlePlace();
-    if (node && String(node) !== near) showNear(node, true);
-  }, STILL);
+  moving = setTimeout(follow, STILL);
 }
 
 /**
@@ -226,9 +233,8 @@ export function beginPicture() {
   for (const id of ["fit-limit", "show-limit", "beyond"]) onClick(id, () => fitTo(".cut", "The bottleneck"));
   onClick("fit-chosen", () => (pickedCount() || theChoice() ? fitTo(".chosen", "What is chosen") : fitAll()));
   onClick("near-limit", () => {
-    near = "";
     at("picture").focus();
-    showPicture();
+    showNear("");
   });
 }
 
