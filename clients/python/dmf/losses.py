@@ -26,8 +26,8 @@ MOST_RANKED = 1_000
 
 
 class Finder(NamedTuple):
-    """How many nodes a network has, and what finds its greatest values: without each arc or node;
-    and without each of so many arcs, nodes or pairs, the worst first."""
+    """How many nodes a network has, and what finds its greatest values: without each arc or node,
+    and without each of the given number of worst arcs, nodes or pairs, the worst first."""
 
     node_count: int
     values_without: Callable[[Part], ValuesWithout]

@@ -84,7 +84,7 @@ class Ranked(Enum):
         return 2 if self is Ranked.PAIRS else 1
 
     def count(self, nodes: int, arcs: int) -> int:
-        """Return how many of these a network with so many nodes and arcs has."""
+        """Return how many of these a network has, by its numbers of nodes and arcs."""
         if self is Ranked.NODES:
             return nodes - 2
         return math.comb(arcs, self.column_count)
