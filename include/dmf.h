@@ -15,7 +15,7 @@
  * be made from a signal handler. After a fork each process has its own copy of the session; if other threads were running,
  * the child must not make any call, since it must not call malloc.
  * Time.  A solve may take long, and so may cap, close and shut if the flow runs over many paths, steps over many states, the
- * losses, and a maximum flow. Every other call looks at each arc a few times at most. Nothing stops a call before it is done.
+ * losses, gains, and a maximum flow. Every other call looks at each arc a few times at most. Nothing stops a call before it is done.
  * Memory.  A session takes some 35 bytes an arc, 80 after its first solve, and 110 after the first change that takes flow
  * off. Any call below may answer DMF_NO_MEMORY unless a comment says that it takes none; then free something and try again.
  * Limits.  2 to 16,777,216 nodes, up to 134,217,728 arcs, closed ones counted. The capacities add up to at most 2^64 - 1.
@@ -246,16 +246,33 @@ enum dmf_status dmf_session_pair_losses(const dmf_session *session, const uint32
 
 /* The arcs, the nodes other than the source and the sink, or the pairs of arcs whose loss is greatest, the greatest first.
  * Equal losses are in the order of the numbers; pairs have firsts[k] < seconds[k], and are in the order of firsts[k], then of
- * seconds[k]. The lengths must be the same, or the answer is DMF_BAD_LENGTH, whatever the flow is. DMF_NOT_GREATEST as above.
- * *found becomes how many elements of each array are written, from index 0 on: all, or as many as there are arcs, nodes or
- * pairs. The other elements are unchanged. A short list takes less time than a long one. */
-enum dmf_status dmf_session_worst_arcs(const dmf_session *session, uint32_t *arcs, size_t arc_count,
+ * seconds[k]. `among` chooses the arcs that may be listed, also in pairs: arc j only if among[j - 1] is not 0. `among_count` is
+ * dmf_session_arcs(session), or 0 for all arcs. The other lengths must be the same. Otherwise the answer is DMF_BAD_LENGTH,
+ * whatever the flow is. DMF_NOT_GREATEST as above. *found becomes how many elements of each array are written, from index 0 on:
+ * all, or as many as there are such arcs, nodes or pairs. The other elements are unchanged. A short list takes less time than a
+ * long one. */
+enum dmf_status dmf_session_worst_arcs(const dmf_session *session, const uint8_t *among, size_t among_count,
+                                       uint32_t *arcs, size_t arc_count,
                                        uint64_t *losses, size_t loss_count, size_t *found);
 enum dmf_status dmf_session_worst_nodes(const dmf_session *session, uint32_t *nodes, size_t node_count,
                                         uint64_t *losses, size_t loss_count, size_t *found);
-enum dmf_status dmf_session_worst_pairs(const dmf_session *session, uint32_t *firsts, size_t first_count,
+enum dmf_status dmf_session_worst_pairs(const dmf_session *session, const uint8_t *among, size_t among_count,
+                                        uint32_t *firsts, size_t first_count,
                                         uint32_t *seconds, size_t second_count,
                                         uint64_t *losses, size_t loss_count, size_t *found);
+
+/* What a second arc would bring: gains[k] becomes how much greater the greatest value is if only an open arc with the ends and the
+ * capacity of arc arcs[k] is added, 0 for a closed arc. Or what a new arc would bring: how much greater it is if only an arc
+ * from tails[k] to heads[k] of capacity capacities[k] is added. The lengths must be the same, or the answer is DMF_BAD_LENGTH.
+ * DMF_NO_SUCH_ARC or DMF_NO_SUCH_NODE, whatever the flow is. DMF_NOT_GREATEST as above. DMF_TOO_MANY_ARCS or DMF_SUM_TOO_LARGE
+ * only if the network cannot take four more arcs for each of these, of its capacity: then ask for fewer at once. One call for many
+ * arcs is much faster than to add each and solve. */
+enum dmf_status dmf_session_second_gains(const dmf_session *session, const uint32_t *arcs, size_t arc_count,
+                                         uint64_t *gains, size_t gain_count);
+enum dmf_status dmf_session_new_arc_gains(const dmf_session *session, const uint32_t *tails, size_t tail_count,
+                                          const uint32_t *heads, size_t head_count,
+                                          const uint64_t *capacities, size_t capacity_count,
+                                          uint64_t *gains, size_t gain_count);
 
 /* Judges `count` flows, one for each arc, of the present network; the session's own flow does not matter. DMF_OK: they are a
  * maximum flow. DMF_OVER_CAPACITY: *place is the number of the first arc with too much. DMF_NOT_CONSERVED: *place is the number

@@ -381,10 +381,13 @@ public:
     }
 
     /// Writes the arcs whose loss is greatest and their losses, the greatest first, into arrays of the same length. Returns
-    /// how many are written: as many as there is room for, or all arcs. Throws as arc_losses() does, and error with bad_length.
-    std::size_t worst_arcs(span<std::uint32_t> arcs, span<std::uint64_t> losses) const {
+    /// how many are written: as many as there is room for, or all arcs. If `among` is given, it has an element for each arc,
+    /// and arc j is listed only if among[j - 1] is not 0. Throws as arc_losses() does, and error with bad_length.
+    std::size_t worst_arcs(span<std::uint32_t> arcs, span<std::uint64_t> losses,
+                           span<const std::uint8_t> among = {}) const {
         std::size_t found = 0;
-        detail::expect_ok(dmf_session_worst_arcs(live(), arcs.data(), arcs.size(), losses.data(), losses.size(), &found));
+        detail::expect_ok(dmf_session_worst_arcs(live(), among.data(), among.size(), arcs.data(), arcs.size(),
+                                                 losses.data(), losses.size(), &found));
         return found;
     }
 
@@ -396,11 +399,43 @@ public:
     }
 
     /// Writes the pairs of arcs whose loss is greatest, as worst_arcs() writes arcs; of a pair the smaller number is in `firsts`.
-    std::size_t worst_pairs(span<std::uint32_t> firsts, span<std::uint32_t> seconds, span<std::uint64_t> losses) const {
+    std::size_t worst_pairs(span<std::uint32_t> firsts, span<std::uint32_t> seconds, span<std::uint64_t> losses,
+                            span<const std::uint8_t> among = {}) const {
         std::size_t found = 0;
-        detail::expect_ok(dmf_session_worst_pairs(live(), firsts.data(), firsts.size(), seconds.data(), seconds.size(),
-                                                  losses.data(), losses.size(), &found));
+        detail::expect_ok(dmf_session_worst_pairs(live(), among.data(), among.size(), firsts.data(), firsts.size(),
+                                                  seconds.data(), seconds.size(), losses.data(), losses.size(), &found));
         return found;
+    }
+
+    /// Returns what a second arc would bring: at index k how much greater the greatest value is if only an arc with the ends and
+    /// the capacity of arc arcs[k] is added. May take long. Throws as arc_losses() does, and error with no_such_arc,
+    /// too_many_arcs or sum_too_large.
+    [[nodiscard]] std::vector<std::uint64_t> second_gains(span<const std::uint32_t> arcs) const {
+        std::vector<std::uint64_t> found(arcs.size());
+        second_gains(arcs, found);
+        return found;
+    }
+
+    /// Writes these gains into an array with an element for each arc. Throws as the function above does, and error with bad_length.
+    void second_gains(span<const std::uint32_t> arcs, span<std::uint64_t> into) const {
+        detail::expect_ok(dmf_session_second_gains(live(), arcs.data(), arcs.size(), into.data(), into.size()));
+    }
+
+    /// Returns what a new arc would bring: at index k how much greater the greatest value is if only an arc from tails[k] to
+    /// heads[k] of capacity capacities[k] is added. May take long. Throws as second_gains() does, and error with bad_length or
+    /// no_such_node instead of no_such_arc.
+    [[nodiscard]] std::vector<std::uint64_t> new_arc_gains(span<const std::uint32_t> tails, span<const std::uint32_t> heads,
+                                                           span<const std::uint64_t> capacities) const {
+        std::vector<std::uint64_t> found(tails.size());
+        new_arc_gains(tails, heads, capacities, found);
+        return found;
+    }
+
+    /// Writes these gains into an array with an element for each arc. Throws as the function above does.
+    void new_arc_gains(span<const std::uint32_t> tails, span<const std::uint32_t> heads,
+                       span<const std::uint64_t> capacities, span<std::uint64_t> into) const {
+        detail::expect_ok(dmf_session_new_arc_gains(live(), tails.data(), tails.size(), heads.data(), heads.size(),
+                                                    capacities.data(), capacities.size(), into.data(), into.size()));
     }
 
     /// Judges flows, one for each arc, as flows of the present network; the session's own flow does not matter. A wrong

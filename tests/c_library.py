@@ -6,7 +6,7 @@ import ctypes
 import functools
 import re
 import subprocess
-from collections.abc import Sequence
+from collections.abc import Callable, Sequence
 from ctypes import byref, c_size_t, c_uint8, c_uint32, c_uint64, c_void_p
 from pathlib import Path
 
@@ -246,10 +246,44 @@ class CSession:
         want(status)
         return tuple(map(int, places))[:-1]
 
-    def worst(self, parts: str, lengths: Sequence[int]) -> list[tuple[int, ...]]:
+    def second_gains(self, arcs: Sequence[int], count: int) -> tuple[int, ...]:
+        """Return what the call puts into an array of this length, as pair_losses does."""
+        given = array_of(c_uint32, arcs), c_size_t(len(arcs))
+        return self._gains(self.calls.dmf_session_second_gains, given, count)
+
+    def new_arc_gains(
+        self,
+        tails: Sequence[int],
+        heads: Sequence[int],
+        capacities: Sequence[int],
+        count: int,
+    ) -> tuple[int, ...]:
+        """Return what the call puts into an array of this length, as pair_losses does."""
+        kinds = zip((c_uint32, c_uint32, c_uint64), (tails, heads, capacities))
+        given = [
+            part
+            for kind, column in kinds
+            for part in (array_of(kind, column), c_size_t(len(column)))
+        ]
+        return self._gains(self.calls.dmf_session_new_arc_gains, given, count)
+
+    def _gains(
+        self, call: Callable[..., int], given: Sequence[object], count: int
+    ) -> tuple[int, ...]:
+        places = odd_array(c_uint64, count)
+        before = bytes(places)
+        status = call(self.session, *given, places if count else None, c_size_t(count))
+        assert bytes(places)[8 * count :] == before[8 * count :]
+        assert status == 0 or bytes(places) == before
+        want(status)
+        return tuple(map(int, places))[:-1]
+
+    def worst(
+        self, parts: str, lengths: Sequence[int], among: Sequence[int] = ()
+    ) -> list[tuple[int, ...]]:
         """Return what dmf_session_worst_PARTS puts into arrays of these lengths, the last one for
         losses: the numbers and the loss of each. Arrays of length 0 are NULL. What is past those
-        that are found stays, and a refused call puts nothing."""
+        that are found stays, and a refused call puts nothing. Nodes have no marks."""
         kinds = [*[c_uint32] * (len(lengths) - 1), c_uint64]
         places = [odd_array(kind, length) for kind, length in zip(kinds, lengths)]
         before, found = list(map(bytes, places)), c_size_t(ODD_NUMBER)
@@ -259,7 +293,8 @@ class CSession:
             for part in (place if length else None, c_size_t(length))
         ]
         call = getattr(self.calls, f"dmf_session_worst_{parts}")
-        status = call(self.session, *columns, byref(found))
+        marks = [] if parts == "nodes" else [array_of(c_uint8, among), c_size_t(len(among))]
+        status = call(self.session, *marks, *columns, byref(found))
         assert status == 0 or found.value == ODD_NUMBER
         written = found.value if status == 0 else 0
         for kind, place, odd in zip(kinds, places, before):

@@ -373,7 +373,8 @@ def text_of(lines: Lines, random: Random, comment: bytes, fault_share: float) ->
 
 def words_of(command: bytes, random: Random) -> tuple[bytes, ...]:
     """Words that ask for this, with or without a cut, brief replies, any greatest flow, nodes,
-    pairs of arcs, a number of the worst and a bound of the history; some of them are faulty."""
+    pairs of arcs, second arcs, a number of the worst and a bound of the history; some of them are
+    faulty."""
     solves = command in (b"solve", b"session")
     path = (
         [random.choices([PROBLEM, b"missing.max", b"folder"], [98, 1, 1])[0]]
@@ -389,13 +390,15 @@ def words_of(command: bytes, random: Random) -> tuple[bytes, ...]:
     brief = [b"--brief"] * random.randrange(2) if solves else []
     any_flow = [b"--any"] * random.randrange(2) if command == b"solve" else []
     nodes = [b"--nodes"] * random.randrange(2) if command == b"vital" else []
+    second = [b"--second"] if command == b"vital" and random.random() < 0.2 else []
     pairs = [b"--pairs"] if command == b"vital" and random.random() < 0.25 else []
     worst = (
         [[b"--worst", b"%d" % random.choice(MOST_WORST)]]
         if command == b"vital" and random.random() < 0.5
         else []
     )
-    parts = [[word] for word in cut + brief + any_flow + nodes + pairs + path] + bound + worst
+    flags = cut + brief + any_flow + nodes + pairs + second
+    parts = [[word] for word in flags + path] + bound + worst
     words = [command] + [word for part in random.sample(parts, len(parts)) for word in part]
     if words == [b"solve"] and random.random() < 0.3:
         words = []
@@ -423,6 +426,7 @@ ODD_WORDS = (
         b"--cut",
         b"--nodes",
         b"--pairs",
+        b"--second",
         b"--worst",
         b"--",
         b"wash",

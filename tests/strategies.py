@@ -218,7 +218,10 @@ WORST: st.SearchStrategy[tuple[bytes, ...]] = st.sampled_from(
     [(b"--worst", b"0"), (b"--worst", b"1"), (b"--worst", b"3")]
 )
 PAIRS: st.SearchStrategy[tuple[bytes, ...]] = WORST.map(lambda worst: (b"--pairs", *worst))
-VALUED = st.one_of(NODES, st.tuples(NODES, WORST).map(lambda words: words[0] + words[1]), PAIRS)
+SECOND: st.SearchStrategy[tuple[bytes, ...]] = st.just((b"--second",))
+VALUED = st.one_of(
+    NODES, st.tuples(NODES, WORST).map(lambda words: words[0] + words[1]), PAIRS, SECOND
+)
 BOUNDS: st.SearchStrategy[tuple[bytes, ...]] = st.sampled_from(
     [(), (), (b"--history", b"0"), (b"--history", b"1"), (b"--history", b"2")]
 )
@@ -232,7 +235,8 @@ def solves(draw: st.DrawFn) -> Case:
 
 @st.composite
 def values(draw: st.DrawFn) -> Case:
-    """What is left without each arc, or without each node, or without the worst, also of pairs."""
+    """What is left without each arc, or without each node, or without the worst, also of pairs, or
+    with second arcs."""
     text = draw(texts(problem_lines(draw(networks().filter(fits))), b"cx"))
     return Case("values", (b"vital", *draw(VALUED)), text, text)
 

@@ -46,6 +46,9 @@ own.arc = function (x, y, size, ...words) {
   return arc.call(this, x, y, size, ...words);
 };
 """
+# Where the headline ends, and how high the window is; and where the legend ends.
+HEAD = "return [document.getElementById('head').getBoundingClientRect().bottom, innerHeight]"
+FOOT = "return document.getElementById('foot').getBoundingClientRect().bottom"
 Box = tuple[float, float, float, float]
 
 
@@ -83,6 +86,48 @@ def test_sheet(driver: Any) -> None:
         driver.find_element("xpath", "//button[@aria-label='Less of the panel']").click()
         page.wait(lambda: max(abs(a - b) for a, b in zip(middle(driver), before)) < 1)
         as_before(driver)
+
+
+def test_grip(driver: Any) -> None:
+    """A tap on the grip raises the sheet to its next height, and lowers it from the last; a drag
+    puts it at the nearest one, and the legend follows. Afterwards all places are seen again."""
+    with board(PIPES) as it:
+        show(driver, 400, "light")
+        page = Page(driver, it.address)
+        head, high = driver.execute_script(HEAD)
+        low, half, full = 128, round(0.46 * high), high - head - 8
+        grip = driver.find_element("id", "panel-grip")
+        for wanted in half, full, low:
+            grip.click()
+            page.wait(lambda: sheet(driver) == pytest.approx(wanted, abs=1))  # noqa: B023
+        page.wait(lambda: is_free(driver))
+        page.actions().move_to_element(grip).click_and_hold().move_by_offset(0, -100).perform()
+        assert sheet(driver) == pytest.approx(low + 100, abs=1)
+        assert driver.execute_script(FOOT) == pytest.approx(high - low - 100 - 8, abs=1)
+        page.actions().release().perform()
+        assert sheet(driver) == pytest.approx(low, abs=1)
+        for by, wanted in ((-200, half), (-3000, full), (150, full), (260, half), (3000, low)):
+            drag_by_finger(driver, grip, by)
+            assert sheet(driver) == pytest.approx(wanted, abs=1), (by, wanted)
+        page.wait(lambda: is_free(driver))
+        as_before(driver)
+
+
+def sheet(driver: Any) -> float:
+    """How high the sheet is, in pixels."""
+    return float(driver.find_element("id", "panel").rect["height"])
+
+
+def drag_by_finger(driver: Any, grip: Any, by: int) -> None:
+    """Drags the grip downwards, within the window."""
+    box = driver.execute_script("return arguments[0].getBoundingClientRect().toJSON()", grip)
+    x, y = box["left"] + box["width"] / 2, box["top"] + box["height"] / 2
+    ends = [y, y + by / 2, y + by]
+    for kind, at in zip(("touchStart", "touchMove", "touchMove"), ends):
+        touch = {"x": x, "y": min(max(at, 1), 2000)}
+        words = {"type": kind, "touchPoints": [touch]}
+        driver.execute_cdp_cmd("Input.dispatchTouchEvent", words)
+    driver.execute_cdp_cmd("Input.dispatchTouchEvent", {"type": "touchEnd", "touchPoints": []})
 
 
 def middle(driver: Any) -> tuple[float, float]:

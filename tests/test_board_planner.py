@@ -5,6 +5,7 @@ networkx."""
 from __future__ import annotations
 
 import base64
+import csv
 import random
 import re
 from pathlib import Path
@@ -125,4 +126,82 @@ def test_from_the_file_to_a_printed_report(driver: Any, tmp_path: Path) -> None:
         # Print, in the dialog that Ctrl-P opens.
         page.clicks += 1
         assert page.clicks <= MOST_CLICKS
+        as_before(driver)
+
+
+# Names as tables have them: with signs that pages, tables and files read in ways of their own.
+ODD_NAMES = (
+    "Müller & Söhne",
+    "<b>Bold</b>",
+    'the "old" one',
+    "=SUM(A1)",
+    "50 %",
+    "Straße 1/2, rear",
+    "水道",
+    "a name that is longer than any column of the table and any label of the picture has room for",
+    "'; DROP TABLE",
+    "and",
+    "  padded  ",
+    "#12",
+)
+
+
+def odd_town() -> list[Row]:
+    """The same 300 pipes, of which the first ones, those of the bottleneck, and some places have
+    odd names."""
+    places = {f"J{row}-0": name for row, name in enumerate(ODD_NAMES)}
+    rows = town()
+    best = [row for row in rows if greatest([*rows, row]) > greatest(rows)]
+    odd = dict(zip([*(row[0] for row in best), *(row[0] for row in rows)], ODD_NAMES))
+    return [
+        (
+            f"{odd[name].strip()} {name}" if name in odd else name,
+            places.get(tail, tail).strip(),
+            places.get(head, head).strip(),
+            capacity,
+        )
+        for name, tail, head, capacity in rows
+    ]
+
+
+@pytest.mark.seconds(40)
+def test_from_the_command_to_a_printed_report(driver: Any, tmp_path: Path) -> None:
+    """`dmf-board FILE` with odd names opens the table at once; nine clicks and keys lead to a
+    printed PDF: the bottleneck, what a second one brings, the best of them, to put it there, the
+    steps, the report, the file that was handed on, Ctrl-P and Print."""
+    rows = odd_town()
+    assert len(rows) == 300
+    table = tmp_path / "town, odd & <new>.csv"
+    with table.open("w", newline="", encoding="utf-8") as file:
+        writer = csv.writer(file)
+        writer.writerow(["Pipe", "Start node", "End node", NOW])
+        writer.writerows(rows)
+    with board(str(table)) as it:
+        show(driver, 1280, "light")
+        page = Walk(driver, it.address)
+        assert page.value() == greatest(rows)
+        judge_second(page, rows)
+        value = page.value()
+        # Each name is text, as the table has it.
+        listed = it.told("rows?filter=&sort=&first=0&count=400")["rows"]
+        assert {row["name"] for row in listed} >= {row[0] for row in rows}
+        assert not driver.find_elements("css selector", "#panel b, #picture b, #limit-table b")
+        page.press("Steps")
+        words = {"behavior": "allow", "downloadPath": str(tmp_path)}
+        driver.execute_cdp_cmd("Browser.setDownloadBehavior", words)
+        link = page.find("#take-pdf")
+        page.clicks += 1
+        link.click()
+        page.wait(lambda: [*tmp_path.glob("*.pdf")])
+        assert (tmp_path / "report.pdf").read_bytes().startswith(b"%PDF-")
+        # The file, Ctrl-P, and Print in the dialog that it opens.
+        page.clicks += 3
+        assert page.clicks == 9 < MOST_CLICKS
+        link = page.find("#take-report")
+        status, _, report = it.ask(it.root + link.get_attribute("href").rpartition("/")[2])
+        assert status == 200
+        (tmp_path / "report.html").write_bytes(report)
+        driver.get(f"file://{tmp_path}/report.html")
+        judge_print(driver, value)
+        assert not driver.find_elements("css selector", "b")
         as_before(driver)

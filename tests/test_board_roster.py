@@ -85,6 +85,64 @@ def test_words(driver: Any) -> None:
         as_before(driver)
 
 
+# The words of networks that no part of the panel has for a roster, where it lists nothing.
+MORE_WATER_WORDS = (*WATER_WORDS, "shut", "gives at most", "takes at most", "flow", "fits", "Mill")
+PANEL = """
+const part = document.querySelector(arguments[0]).cloneNode(true);
+for (const it of part.querySelectorAll("#costs, #grid tbody, #limit-table tbody")) it.remove();
+return part.textContent;
+"""
+
+
+def judge_panel(page: Page, *parts: str) -> str:
+    """What parts of the panel say, none of which is a word of networks."""
+    said = " ".join(page.driver.execute_script(PANEL, part) for part in parts)
+    for word in MORE_WATER_WORDS:
+        assert not re.search(rf"\b{word}", said, re.IGNORECASE), f"{word}: {said}"
+    return said
+
+
+def test_words_of_each_tab(driver: Any) -> None:
+    """The same holds for the legend, the table, its filter and what is done to all that are chosen;
+    for a person who is left out, and taken in again; and for what a new connection is asked for."""
+    with board(*ROTA) as it:
+        show(driver, 1280, "light")
+        page = Page(driver, it.address)
+        page.know_worth()
+        assert "what Cem can work" in page.text("#limit-table")
+        assert "not taken" in judge_panel(page, "#shades")
+        page.write("#text", "Cem")
+        page.wait(lambda: page.text("#found button") == "Cem")
+        page.click("#found button")
+        page.wait(lambda: page.fact("What Cem can work") == "16 of 16")
+        said = judge_panel(page, "#what")
+        for word in "Gives", "Leaving it out", "allows hours", "What Cem can work in hours":
+            assert word in said
+        lost = page.fact("Leaving it out").split(" → ")
+        assert page.after(lambda: page.press("Leave it out")) == int(lost[1]) < int(lost[0])
+        assert page.text("#what .chips").endswith("left out")
+        assert page.text("#news").startswith("Cem is left out: ")
+        judge_panel(page, "#what")
+        assert page.after(lambda: page.press("Take it in again")) == 120
+        page.click("#tab-all")
+        page.write("#filter", "staffed > 0 and allows < 16")
+        rows = [row for row in it.told("rows?filter=&sort=&first=0&count=500")["rows"]]
+        wanted = sum(int(row["flow"]) > 0 and int(row["capacity"]) < 16 for row in rows)
+        page.wait(lambda: page.text("#filter-told").startswith(f"{wanted} rows"))
+        page.press("Choose all of these")
+        page.wait(lambda: "are staffed" in page.text("#many-told"))
+        said = judge_panel(page, "#filter-forms", "#grid", "#many", "#listed-head")
+        assert "What each open connection allows" in said
+        judge_panel(page, "#part-steps", "#part-selected > section:last-child")
+        page.press("What would a second one bring?")
+        page.wait(lambda: page.text("#seconds-told").startswith("Best to have a second of: "))
+        assert "what Fri early needs" in judge_panel(page, "#seconds-told")
+        report = it.ask(it.root + f"report.html?turn={it.turn()}")[2].decode()
+        assert "what Cem can work" in report
+        assert not re.search("(gives|takes) at most", report)
+        as_before(driver)
+
+
 def test_none_is_short(driver: Any, tmp_path: Path) -> None:
     """If nothing is missing, a roster says that all shifts are staffed, and a network that all
     demands are met."""
@@ -119,7 +177,7 @@ def test_orange_is_what_lacks_something() -> None:
     with board(*ROTA) as it:
         root = ElementTree.fromstring(it.told("picture?near=")["svg"])
         limit = {arc["label"] for arc in it.state()["limit"]}
-    assert "what Fri early takes at most" in limit and "what Cem gives at most" in limit
+    assert "what Fri early needs" in limit and "what Cem can work" in limit
     looks = {}
     for group in root.iter(f"{SVG}g"):
         name, *amounts = group.findall(f"{SVG}text") or [group]

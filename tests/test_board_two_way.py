@@ -32,6 +32,9 @@ D,E,4,spare,<->
 """
 
 
+ALL = {"filter": "", "sort": "", "first": "0", "count": "99"}
+
+
 @pytest.fixture
 def board() -> Iterator[Board]:
     wanted = TableOptions(source=["A"], sink=["D"])
@@ -54,6 +57,16 @@ def do(board: Board, what: str, **content: Any) -> Any:
 def rows(board: Board, filter: str = "", sort: str = "") -> list[tuple[Any, ...]]:
     found = told(board, "rows", filter=filter, sort=sort, first="0", count="99")["rows"]
     return [(it["name"], it["flow"], it["capacity"], it["way"], it["change"]) for it in found]
+
+
+def test_trials(board: Board) -> None:
+    """What other capacities of one would bring: the same one each way, or one for each way. 2 come
+    to C beside what Main brings there, at most 5, and out carries at most 7."""
+    main = next(it["number"] for it in told(board, "rows", **ALL)["rows"] if it["name"] == "Main")
+    for there, back, value in ("4", "", 6), ("3", "5", 7), ("9", "1", 3), ("+100 %", "+100 %", 7):
+        found = told(board, "trial", arc=str(main), capacity=there, back=back)
+        assert found["value"] == str(value), (there, back)
+    assert board.desk.at == 1 and str(board.desk.value) == "5"
 
 
 def test_rows(board: Board) -> None:

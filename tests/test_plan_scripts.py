@@ -324,9 +324,9 @@ def test_page(tmp_path: Path) -> None:
     ]
     prompt = re.compile("[0-9]+, .*greatest> ")
     typed = [line.partition("> ")[2] for line in lines if prompt.match(line)]
-    assert len(typed) == 8 and typed[6:] == ["quit", "cost to 175"]
+    assert len(typed) == 10 and typed[8:] == ["quit", "cost to 175"]
     # A terminal solves at first, and a script is told so.
-    ran = run("dmf-plan", PIPES, typed="".join(f"{line}\n" for line in ["solve", *typed[:7]]))
+    ran = run("dmf-plan", PIPES, typed="".join(f"{line}\n" for line in ["solve", *typed[:9]]))
     session = lines[: lines.index("165, greatest> quit")]
     told = [line for line in session if re.match("value |  |closing |shutting ", line)]
     found = ran.stdout.replace(", 165 more", "", 1).splitlines()

@@ -3,11 +3,17 @@ places, or worked out by hand."""
 
 from __future__ import annotations
 
+import json
 import re
+from itertools import combinations
 from pathlib import Path
 
 import pytest
-from desk_shared import PIPES, greatest, run, swept, water
+from desk_shared import PIPES, ROOT, greatest, run, swept, water
+from dmf.desk.plan.grammar import completed
+from dmf.desk.workspace import Desk
+from dmf.tables.loader import read_subject
+from project_shared import words
 
 ROW = re.compile("^ +([0-9.]+) +([0-9.]+)  #([0-9]+) (.*?), .* -> .*$", re.MULTILINE)
 # A pipe that leads both ways, of tenths: all that leads to the end comes by way of it or of `by`.
@@ -93,6 +99,81 @@ def test_several_arcs_of_one_name(tmp_path: Path) -> None:
     ]
 
 
+def test_two_arcs() -> None:
+    """What is left without both is what trying all sets of places finds, and what is left when both
+    are closed and the rest is solved."""
+    pipes, typed, wanted = water(), "", []
+    for one, other in combinations(pipes, 2):
+        left = greatest([it for it in pipes if it not in (one, other)])
+        wanted.append(f"  closing both: 165 to {left} litres per second, {165 - left} less")
+        typed += f'worth {one.name} and "{other.name}"\n'
+        typed += f"close {one.name}\nclose {other.name}\nsolve\nundo 3\n"
+    ran = run("dmf-plan", PIPES, typed=f"solve\n{typed}")
+    lines = ran.stdout.splitlines()
+    assert [it for it in lines if it.startswith("  closing both")] == wanted, ran.stderr
+    # After the first solve there are four values for a pair, of which the third is that of a solve.
+    after = re.findall("^value ([0-9]+)", ran.stdout, re.MULTILINE)[3::4]
+    assert [line.split(" litres")[0] for line in wanted] == [
+        f"  closing both: 165 to {value}" for value in after
+    ]
+    alone = {name: f": 165 to {left} litres" for name, (left, _) in swept().items()}
+    assert lines[1].startswith(
+        f"  closing #1 Upper main, Reservoir -> Upper Works{alone['Upper main']}"
+    )
+
+
+def test_two_arcs_in_json() -> None:
+    """Both arcs, each with what is left without it alone, and what is left without both."""
+    ran = run("dmf-plan", PIPES, "--json", typed="solve\nworth #2 and Upper main\n")
+    (told,) = (it for it in map(json.loads, ran.stdout.splitlines()) if it["event"] == "worth")
+    found = [(it["arc"]["name"], it["without"]["raw"]) for it in told["losses"]]
+    assert found == [("Lower main", 100), ("Upper main", 80)]
+    assert (told["together"]["raw"], told["more"]) == (0, 0)
+
+
+def test_two_pipes_that_lead_both_ways(tmp_path: Path) -> None:
+    """Each is one thing, whichever of its arcs is named."""
+    (tmp_path / "both.csv").write_text(BOTH)
+    typed = "solve\nworth Main and by\nworth #3 and #4\n"
+    ran = run("dmf-plan", f"{tmp_path}/both.csv", "A", "D", typed=typed)
+    told = [
+        "  closing #2 Main, B <-> C: 5.5 to 2 l/s, 3.5 less",
+        "  closing #4 by, A -> C: 5.5 to 3.5 l/s, 2 less",
+        "  closing both: 5.5 to 0 l/s, 5.5 less",
+    ]
+    assert ran.stdout.splitlines()[1:] == [*told, *told], ran.stderr
+    ran = run("dmf-plan", f"{tmp_path}/both.csv", "A", "D", typed="solve\nworth #3 and Main\n")
+    assert "both names mean #2 (Main, B <-> C)" in ran.stderr
+
+
+def test_names_with_and(tmp_path: Path) -> None:
+    """A name may have an `and`. If the words can mean several things, quotes or numbers decide."""
+    rows = "S,T,1,A\nS,T,2,B\nS,T,4,A and B\nS,T,8,C and D\nS,T,16,B and A\n"
+    path = tmp_path / "and.csv"
+    path.write_text(f"from,to,capacity,name\n{rows}")
+    # Each arc has its own bit, so a loss says which were closed: the last one is of all of a line.
+    asked = {
+        '"A and B"': [4],
+        "#1 and #2": [1, 2, 3],
+        "C and D": [8],
+        "C and D and A": [8, 1, 9],
+        '"A and B" and A': [4, 1, 5],
+        '"B and A" and "A and B"': [16, 4, 20],
+    }
+    ran = run("dmf-plan", str(path), typed="solve\n" + "".join(f"worth {it}\n" for it in asked))
+    told = [int(it) for it in re.findall(r"closing .*: 31 to .*, ([0-9]+) less$", ran.stdout, re.M)]
+    assert told == [loss for losses in asked.values() for loss in losses], ran
+    for line in "worth A and B", "worth A and B and A":
+        ran = run("dmf-plan", str(path), typed=f"solve\n{line}\n")
+        assert "this can mean several things; put a name with `and` in quotes" in ran.stderr
+
+
+def test_two_arcs_completed() -> None:
+    desk = Desk(read_subject(words(ROOT, PIPES)))
+    assert completed(desk, "worth Mill Lane and Bri").texts == ['"Bridge pipe" ']
+    assert completed(desk, "worth Mill Lane Bri").texts == []
+
+
 def test_nothing_is_vital(tmp_path: Path) -> None:
     (tmp_path / "no.csv").write_text("from,to,capacity\nA,B,0\nB,C,4\n")
     ran = run("dmf-plan", f"{tmp_path}/no.csv", typed="solve\nworst\n")
@@ -118,6 +199,11 @@ def test_projects(tmp_path: Path) -> None:
     [
         ("worth", "usage: worth ARC"),
         ("worth Mil Lane", "no arc is called 'Mil Lane'; is it 'Mill Lane'"),
+        ("worth Mill Lane and Bridge", "no arc is called 'Bridge'; is it 'Bridge pipe'?"),
+        ("worth Mill Lane and", "no arc is called 'Mill Lane and'"),
+        ("worth #9 and Mill Lane", "both names mean #9 (Mill Lane, Mill -> Market)"),
+        ("close Mill Lane\nsolve\nworth Bridge pipe and #9", "-> Market) is closed"),
+        ("undo\nworth #1 and #2", "the flow is not greatest, so nothing can be compared with it"),
         ("worst 1.5", "'1.5' is not a number"),
         ("close Mill Lane\nsolve\nworth Mill Lane", "(Mill Lane, Mill -> Market) is closed"),
         ("undo\nworst", "the flow is not greatest, so nothing can be compared with it"),

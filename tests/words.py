@@ -19,12 +19,12 @@ from worked_forms import CROSSED, CROSSED_FLOW, Worked, text
 USAGE = """Usage: dmf [solve [--any] [--brief] [--cut] [--progress]] <FILE
        dmf session [--brief] [--cut] [--history N] [--progress] PROBLEM
        dmf check PROBLEM <SOLUTION
-       dmf vital [--nodes | --pairs] [--progress] [--worst N] <FILE
+       dmf vital [--nodes | --pairs | --second] [--progress] [--worst N] <FILE
 """
 SOLVE = "Usage: dmf solve [--any] [--brief] [--cut] [--progress] <FILE\n"
 SESSION = "Usage: dmf session [--brief] [--cut] [--history N] [--progress] PROBLEM\n"
 CHECK = "Usage: dmf check PROBLEM <SOLUTION\n"
-VITAL = "Usage: dmf vital [--nodes | --pairs] [--progress] [--worst N] <FILE\n"
+VITAL = "Usage: dmf vital [--nodes | --pairs | --second] [--progress] [--worst N] <FILE\n"
 # The tools around the program, by their files.
 TOOLS = [
     name
@@ -110,6 +110,12 @@ REFUSED = [
     ("vital --pairs --nodes", "the argument '--nodes' cannot be used with '--pairs'\n"),
     ("vital --worst 1 --pairs --nodes", "the argument '--nodes' cannot be used with '--pairs'\n"),
     ("vital --pairs --worst 1 P", "unexpected argument 'P' found"),
+    ("vital --second=2", "unexpected value '2' for '--second' found"),
+    ("vital --second --second", "cannot be used multiple times"),
+    ("vital --second --nodes", "the argument '--nodes' cannot be used with '--second'\n"),
+    ("vital --pairs --second", "the argument '--pairs' cannot be used with '--second'\n"),
+    ("vital --second --worst 2", "the argument '--second' cannot be used with '--worst <N>'\n"),
+    ("vital --second P", "unexpected argument 'P' found"),
     ("vital --progress --progress", "cannot be used multiple times"),
     ("vital --worst 1 --worst 1", "cannot be used multiple times"),
     ("vital --worst -1", "unexpected argument '-1' found"),
@@ -126,6 +132,10 @@ REFUSED = [
     ("solve --pairs", "unexpected argument '--pairs' found"),
     ("session --pairs P", "unexpected argument '--pairs' found"),
     ("check --pairs P", "unexpected argument '--pairs' found"),
+    ("--second", "unexpected argument '--second' found"),
+    ("solve --second", "unexpected argument '--second' found"),
+    ("session --second P", "unexpected argument '--second' found"),
+    ("check --second P", "unexpected argument '--second' found"),
     ("Vital", "unrecognized subcommand 'Vital'"),
 ]
 # Words with a bound that is refused, each with a part of the text that tells it.
@@ -150,6 +160,7 @@ FORMS = [
     ("check", CHECK),
     ("vital net.max", VITAL),
     ("vital --pairs", VITAL),
+    ("vital --second --nodes", VITAL),
 ]
 # Words, each with parts of the help that they ask for.
 HELPS: list[tuple[str, tuple[str, ...]]] = [
@@ -206,11 +217,13 @@ HELPS: list[tuple[str, tuple[str, ...]]] = [
             "Leave out each node in turn, rather than each arc\n",
             "Leave out pairs of arcs; needs --worst\n",
             "Tell on standard error how far it is\n",
+            "Also print the greatest value with a second arc beside each\n",
             "--worst <N>",
             "\n  $ dmf vital <network.max\n  c value 5\n",
             "\n  $ dmf vital --nodes <network.max\n  c value 5\n  v 2 2\n  v 3 2\n",
             "\n  $ dmf vital --worst 2 <network.max\n  c value 5\n  v 1 2\n  v 5 2\n",
             "\n  $ dmf vital --pairs --worst 2 <network.max\n  c value 5\n  v 1 2 0\n  v 1 5 0\n",
+            "\n  $ dmf vital --second <network.max\n  c value 5\n  v 1 2 5\n  v 2 3 5\n",
         ),
     ),
     ("vital --progress -h", (VITAL,)),
@@ -223,7 +236,7 @@ VERSIONS = [(word, f"dmf {RELEASE}\n") for word in ("--version", "-V")]
 # What may stand after a command; the words of one part stand together.
 PARTS = ("--brief",), ("--cut",), ("--history", "1"), ("--progress",), (PROBLEM.decode(),)
 SOLVE_PARTS = ("--any",), *PARTS
-VITAL_PARTS = ("--nodes",), ("--pairs",), ("--worst", "2"), *PARTS
+VITAL_PARTS = ("--nodes",), ("--pairs",), ("--second",), ("--worst", "2"), *PARTS
 # What else may stand after `session`: other ways to write a bound, and paths that look like other
 # words. Of these paths only one has a file.
 SESSION_WORDS = (

@@ -57,6 +57,7 @@ REASONS = {
     "run_solve_watched (optimal)": A_LAW,
     "run_vital (one_text)": A_LAW,
     "run_vital_nodes (one_text)": A_LAW,
+    "run_vital_second (one_text)": A_LAW,
     "run_vital_worst (one_text)": A_LAW,
     "run_vital_worst_nodes (one_text)": A_LAW,
     "run_vital_worst_pairs (one_text)": A_LAW,
@@ -128,7 +129,8 @@ LIKE_OTHERS = {
         f"dmf_session_{call} (unchanged)"
         for call in (
             *("side", "arc_losses", "node_losses", "pair_losses"),
-            *("worst_arcs", "worst_nodes", "worst_pairs", "problem", "solution"),
+            *("worst_arcs", "worst_nodes", "worst_pairs", "second_gains", "new_arc_gains"),
+            *("problem", "solution"),
         )
     ),
 }

@@ -140,6 +140,8 @@ WORDS = [
     Words("vital --worst 3 none.max", 2, "dmf vital --worst 3 <none.max\n"),
     Words("vital --pairs --worst 3 none.max", 2, "dmf vital --pairs --worst 3 <none.max\n"),
     Words("vital --pairs none.max", 2, ""),
+    Words("vital --second none.max", 2, "dmf vital --second <none.max\n"),
+    Words("vital --second --worst 3 none.max", 2, ""),
     Words("vital --nodes --pairs --worst 3 none.max", 2, ""),
     Words("vital --worst 10001 none.max", 2, "N is a whole number from 0 to 10000\n"),
     Words("vital --worst=x", 2, "N is a whole number from 0 to 10000\n"),

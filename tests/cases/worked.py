@@ -18,6 +18,7 @@ from worked_forms import (
     NODES,
     PAIRS,
     PARALLEL,
+    SECOND,
     TWO,
     WORST,
     Worked,
@@ -27,6 +28,7 @@ from worked_forms import (
     solved,
     text,
     valued,
+    without_room,
     wrong,
 )
 from worked_sessions import BRIEF_SESSIONS, HISTORIES, SESSIONS
@@ -144,6 +146,19 @@ VITAL = [
         WORST,
         b"2",
     ),
+    valued(
+        "two cuts that each let through no more",
+        CROSSED,
+        "c value 5 / v 1 2 5 / v 2 3 5 / v 3 4 5 / v 4 3 5 / v 5 2 5",
+        SECOND,
+    ),
+    valued(
+        "only the arc that all units share gains by a second one, and no loop or way back",
+        "p max 3 5 / n 1 s / n 3 t / a 1 2 9 / a 2 3 4 / a 2 2 7 / a 3 1 5 / a 2 3 0",
+        "c value 4 / v 1 0 4 / v 2 0 8 / v 3 4 4 / v 4 4 4 / v 5 4 4",
+        SECOND,
+    ),
+    without_room("a second arc would carry past 64 bits", LARGEST),
     valued("no pair", LARGEST, "c value 18446744073709551615", PAIRS, WORST, b"1"),
     valued("none of the worst pairs", CROSSED, "c value 5", PAIRS, WORST, b"0"),
     valued(

@@ -44,6 +44,12 @@ def valued(name: str, problem: str | bytes, written: str, *flags: bytes) -> Work
     return Worked(case, Outcome(0, text(written)))
 
 
+def without_room(name: str, problem: str) -> Worked:
+    """A problem that has no room for second arcs."""
+    case = Case(name, (b"vital", SECOND), text(problem), text(problem))
+    return Worked(case, Outcome(4, b"", b"dmf: no room for second arcs\n"))
+
+
 def faulty(problem: str | bytes, told: str, command: bytes = b"solve", *flags: bytes) -> Worked:
     """A problem that is refused. Standard input has it too, where it is read."""
     words = (command, *flags) if command in (b"solve", b"vital") else (command, PROBLEM)
@@ -62,6 +68,7 @@ def wrong(problem: str | bytes, solution: str | bytes, told: str) -> Worked:
 CUT = b"--cut"
 NODES = b"--nodes"
 PAIRS = b"--pairs"
+SECOND = b"--second"
 WORST = b"--worst"
 BRIEF = b"--brief"
 # Four nodes: two ways from the source to the sink, and an arc from the one to the other.

@@ -223,7 +223,40 @@ void listing_the_worst() {
     EXPECT(firsts == std::vector<std::uint32_t>{1, 5, 2} && losses == numbers{3, 3, 2});
     EXPECT(session.worst_pairs(firsts, seconds, losses) == 3 && losses == numbers{5, 5, 5});
     EXPECT(firsts == std::vector<std::uint32_t>{1, 1, 4} && seconds == std::vector<std::uint32_t>{2, 5, 5});
+    // Only arcs 1, 4 and 5.
+    const std::array<std::uint8_t, 5> among{1, 0, 0, 255, 2};
+    REFUSED(bad_length, (void)session.worst_arcs(firsts, losses, {among.data(), 4}));
+    REFUSED(bad_length, (void)session.worst_pairs(firsts, seconds, losses, {among.data(), 1}));
+    EXPECT(session.worst_arcs(firsts, losses, among) == 3);
+    EXPECT(firsts == std::vector<std::uint32_t>{1, 5, 4} && losses == numbers{3, 3, 2});
+    EXPECT(session.worst_pairs(firsts, seconds, losses, among) == 3 && losses == numbers{5, 5, 3});
+    EXPECT(firsts == std::vector<std::uint32_t>{1, 4, 1} && seconds == std::vector<std::uint32_t>{5, 5, 4});
     EXPECT(session.value() == 5 && session.past() == 1);
+}
+
+void gaining() {
+    dmf::session session = example();
+    const std::array<std::uint32_t, 3> arcs{4, 5, 1}, tails{3, 1, 4}, heads{4, 4, 1};
+    const std::array<std::uint64_t, 3> capacities{9, 5, 9};
+    std::array<std::uint64_t, 3> gains{9, 9, 9};
+    session.cap(5, 1);
+    REFUSED(not_greatest, (void)session.second_gains(arcs));
+    REFUSED(not_greatest, (void)session.new_arc_gains(tails, heads, capacities));
+    session.solve();
+    // Three arrive. Node 2 gets three, of which arc 4 takes two and arc 5 one; node 3 gets two of its own.
+    EXPECT(session.second_gains(arcs) == numbers{1, 1, 0} && session.second_gains({}).empty());
+    EXPECT(session.new_arc_gains(tails, heads, capacities) == numbers{2, 5, 0} && session.new_arc_gains({}, {}, {}).empty());
+    REFUSED(no_such_arc, session.second_gains({5, 4, 6}, gains));
+    REFUSED(bad_length, session.second_gains({5, 4}, gains));
+    REFUSED(no_such_node, session.new_arc_gains({1, 5, 1}, heads, capacities, gains));
+    REFUSED(bad_length, session.new_arc_gains(tails, heads, {1, 2}, gains));
+    REFUSED(sum_too_large, session.new_arc_gains(tails, heads, {1, std::uint64_t(-1), 1}, gains));
+    EXPECT(gains[0] == 9);
+    session.second_gains(arcs, gains);
+    EXPECT(gains == std::array<std::uint64_t, 3>{1, 1, 0});
+    session.new_arc_gains(tails, heads, capacities, gains);
+    EXPECT(gains == std::array<std::uint64_t, 3>{2, 5, 0});
+    EXPECT(session.value() == 3 && session.past() == 2);
 }
 
 void finding() {
@@ -259,6 +292,7 @@ int main() {
     losing();
     losing_pairs();
     listing_the_worst();
+    gaining();
     finding();
     owning();
     without_arcs();

@@ -46,6 +46,8 @@ int main() {
     count += is_refused([&] { (void)session.worst_arcs(firsts, of_arcs); });
     count += is_refused([&] { (void)session.worst_nodes({firsts.data(), 4}, of_nodes); });
     count += is_refused([&] { (void)session.worst_pairs(firsts, seconds, of_arcs); });
+    count += is_refused([&] { session.second_gains({1, 2}, {of_arcs.data(), 2}); });
+    count += is_refused([&] { session.new_arc_gains({1, 2}, {3, 3}, {4, 4}, {of_arcs.data(), 2}); });
     std::vector<std::uint8_t> marks(4, 9);
     count += is_refused([&] { session.maximum_flow(of_arcs, marks); });
     const bool unwritten = of_arcs == std::vector<std::uint64_t>(5, 9) && of_nodes == std::vector<std::uint64_t>(4, 9) &&

@@ -89,12 +89,14 @@ static struct outputs odd(void)
     return outputs;
 }
 
-enum step { VALUE, MAXIMUM, SOLVE, FLOWS, RANGE, SIDE, ARC_LOSSES, NODE_LOSSES, PAIR_LOSSES, WORST_ARCS, WORST_NODES, WORST_PAIRS, CHECK, CAP, ADD, SOLVE_AGAIN, PROBLEM, SOLUTION, UNDO, REDO, CLOSE, SHUT, STEPS };
+enum step { VALUE, MAXIMUM, SOLVE, FLOWS, RANGE, SIDE, ARC_LOSSES, NODE_LOSSES, PAIR_LOSSES, WORST_ARCS, WORST_NODES, WORST_PAIRS, CHECK, CAP, ADD, SOLVE_AGAIN, SECOND_GAINS, NEW_ARC_GAINS, PROBLEM, SOLUTION, UNDO, REDO, CLOSE, SHUT, STEPS };
 
 static enum dmf_status call(dmf_session *session, enum step step, struct outputs *to)
 {
     static const uint64_t flows[ARCS] = {3, 2, 1, 2, 3};
-    static const uint32_t firsts[] = {4, 2, 3}, seconds[] = {5, 4, 3};
+    static const uint32_t firsts[] = {4, 2, 3}, seconds[] = {5, 4, 3}, arcs[] = {4, 6, 1}, tails[] = {3, 1, 4}, heads[] = {4, 4, 1};
+    static const uint64_t capacities[] = {9, 5, 9};
+    static const uint8_t among[ARCS] = {1, 0, 0, 255, 2};
     switch (step) {
     case VALUE: return dmf_session_maximum_flow(session, &to->greatest, NULL, 0, NULL, 0);
     case MAXIMUM: return dmf_session_maximum_flow(session, &to->greatest, to->flows, ARCS, to->side, NODES);
@@ -106,12 +108,14 @@ static enum dmf_status call(dmf_session *session, enum step step, struct outputs
     case ARC_LOSSES: return dmf_session_arc_losses(session, to->of_arcs, ARCS);
     case NODE_LOSSES: return dmf_session_node_losses(session, to->of_nodes, NODES);
     case PAIR_LOSSES: return dmf_session_pair_losses(session, firsts, 3, seconds, 3, to->losses, 3);
-    case WORST_ARCS: return dmf_session_worst_arcs(session, to->firsts, 2, to->losses, 2, &to->found);
+    case WORST_ARCS: return dmf_session_worst_arcs(session, NULL, 0, to->firsts, 2, to->losses, 2, &to->found);
     case WORST_NODES: return dmf_session_worst_nodes(session, to->firsts, MOST, to->losses, MOST, &to->found);
-    case WORST_PAIRS: return dmf_session_worst_pairs(session, to->firsts, 3, to->seconds, 3, to->losses, 3, &to->found);
+    case WORST_PAIRS: return dmf_session_worst_pairs(session, among, ARCS, to->firsts, 3, to->seconds, 3, to->losses, 3, &to->found);
     case CHECK: return dmf_session_check(session, flows, ARCS, &to->place);
     case CAP: return dmf_session_cap(session, 5, 1);
     case ADD: return dmf_session_add(session, 1, 4, 7);
+    case SECOND_GAINS: return dmf_session_second_gains(session, arcs, 3, to->losses, 3);
+    case NEW_ARC_GAINS: return dmf_session_new_arc_gains(session, tails, 3, heads, 3, capacities, 3, to->losses, 3);
     case PROBLEM: return dmf_session_problem(session, to->text, sizeof to->text, &to->length);
     case SOLUTION: return dmf_session_solution(session, to->text, sizeof to->text, &to->length);
     case UNDO: return dmf_session_undo(session, 2);
@@ -130,7 +134,7 @@ static struct outputs left_by_refused(enum step step)
     return outputs;
 }
 
-/* The arrays begin with these losses, each of the arcs or the node with the number beside it; the next element is as it was. */
+/* The arrays begin with these losses or gains, each of the arcs or the node with the number beside it; the next element is as it was. */
 static int are_losses(const struct outputs *to, size_t count, const uint32_t *firsts, const uint32_t *seconds, const uint64_t *losses)
 {
     struct outputs want = odd();
@@ -148,8 +152,8 @@ static int is_written(enum step step, const struct outputs *to)
 {
     static const char begin[] = "p max 4 6\n", value[] = "s 10\n";
     static const uint64_t of_arcs[ARCS] = {3, 2, 1, 2, 3}, of_nodes[NODES] = {0, 3, 3, 0};
-    static const uint64_t threes[] = {3, 3}, of_pairs[] = {5, 2, 1}, fives[] = {5, 5, 5};
-    static const uint32_t worst_arcs[] = {1, 5}, worst_nodes[] = {2, 3}, firsts[] = {1, 1, 4}, seconds[] = {2, 5, 5};
+    static const uint64_t threes[] = {3, 3}, of_pairs[] = {5, 2, 1}, of_chosen[] = {5, 5, 3}, of_seconds[] = {1, 7, 0}, of_new[] = {2, 5, 0};
+    static const uint32_t worst_arcs[] = {1, 5}, worst_nodes[] = {2, 3}, firsts[] = {1, 4, 1}, seconds[] = {5, 5, 4};
     switch (step) {
     case VALUE: return to->greatest == 5;
     case MAXIMUM: return to->greatest == 5 && memcmp(to->flows, of_arcs, sizeof of_arcs) == 0 && to->side[0] == 1 && to->side[NODES - 1] == 0;
@@ -161,7 +165,9 @@ static int is_written(enum step step, const struct outputs *to)
     case PAIR_LOSSES: return are_losses(to, 3, NULL, NULL, of_pairs);
     case WORST_ARCS: return are_losses(to, 2, worst_arcs, NULL, threes);
     case WORST_NODES: return are_losses(to, 2, worst_nodes, NULL, threes);
-    case WORST_PAIRS: return are_losses(to, 3, firsts, seconds, fives);
+    case WORST_PAIRS: return are_losses(to, 3, firsts, seconds, of_chosen);
+    case SECOND_GAINS: return are_losses(to, 3, NULL, NULL, of_seconds);
+    case NEW_ARC_GAINS: return are_losses(to, 3, NULL, NULL, of_new);
     case CHECK: return to->place == 0;
     case PROBLEM: return to->length > sizeof begin && memcmp(to->text, begin, sizeof begin - 1) == 0;
     case SOLUTION: return to->length > sizeof value && memcmp(to->text, value, sizeof value - 1) == 0;

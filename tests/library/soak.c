@@ -114,10 +114,13 @@ static void take_round(dmf_session *session)
              dmf_session_node_losses(session, losses, NODES) == DMF_OK,
          "losses were refused");
     want(dmf_session_worst_nodes(session, firsts, 10, losses, 10, &found) == DMF_OK && found == 10 &&
-             dmf_session_worst_arcs(session, firsts, 10, losses, 10, &found) == DMF_OK && found == 10 &&
-             dmf_session_worst_pairs(session, firsts, 10, seconds, 10, losses, 10, &found) == DMF_OK && found == 10 &&
+             dmf_session_worst_arcs(session, NULL, 0, firsts, 10, losses, 10, &found) == DMF_OK && found == 10 &&
+             dmf_session_worst_pairs(session, NULL, 0, firsts, 10, seconds, 10, losses, 10, &found) == DMF_OK && found == 10 &&
              dmf_session_pair_losses(session, firsts, 10, seconds, 10, flows, 10) == DMF_OK && memcmp(flows, losses, sizeof *flows * 10) == 0,
          "the worst losses were refused, or are others");
+    want(dmf_session_second_gains(session, firsts, 10, losses, 10) == DMF_OK &&
+             dmf_session_new_arc_gains(session, firsts, 0, seconds, 0, flows, 0, losses, 0) == DMF_OK,
+         "gains were refused");
     want(dmf_session_maximum_flow(session, &greatest, flows, dmf_session_arcs(session), text, NODES) == DMF_OK &&
              greatest == dmf_session_value(session) && dmf_session_check(session, flows, dmf_session_arcs(session), &place) == DMF_OK,
          "the other flow is not greatest");

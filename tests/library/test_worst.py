@@ -4,7 +4,7 @@ in the session itself, and for each answer what is written."""
 
 from __future__ import annotations
 
-from collections.abc import Mapping
+from collections.abc import Mapping, Sequence
 from itertools import combinations
 from random import Random
 
@@ -44,10 +44,10 @@ def library() -> Library:
     return Library(library_folder())
 
 
-def worst(session: CSession, parts: str, most: int) -> Rows:
+def worst(session: CSession, parts: str, most: int, among: Sequence[int] = ()) -> Rows:
     """The worst of these, at most so many. The session is as it was."""
     before = session.state()
-    found = session.worst(parts, [most] * (3 if parts == "pairs" else 2))
+    found = session.worst(parts, [most] * (3 if parts == "pairs" else 2), among)
     assert session.state() == before
     return found
 
@@ -73,6 +73,31 @@ def test_the_worst_by_hand(library: Library, parts: str) -> None:
         session.step("solve")
         for most in range(len(WORST[parts]) + 3):
             assert worst(session, parts, most) == WORST[parts][:most]
+
+
+@pytest.mark.parametrize("parts", ["arcs", "pairs"])
+def test_chosen_arcs_by_hand(library: Library, parts: str) -> None:
+    """A mark of 1 to 255 chooses an arc, and a pair needs two of them."""
+    with library.example() as session:
+        session.step("solve")
+        for marks in [1, 0, 0, 255, 2], [0, 1, 1, 0, 0], [0] * ARCS, [7] * ARCS:
+            chosen = {arc for arc, mark in enumerate(marks, 1) if mark}
+            rows = [row for row in WORST[parts] if chosen.issuperset(row[:-1])]
+            for most in range(len(rows) + 2):
+                assert worst(session, parts, most, marks) == rows[:most]
+
+
+@pytest.mark.parametrize("parts", ["arcs", "pairs"])
+@pytest.mark.parametrize("count", [1, ARCS - 1, ARCS + 1])
+def test_marks_of_another_number(library: Library, parts: str, count: int) -> None:
+    """Of a flow that is not greatest too: the lengths are judged first."""
+    with library.example() as session:
+        for _ in range(2):
+            before = session.state()
+            with pytest.raises(Refused) as told:
+                session.worst(parts, [2] * (3 if parts == "pairs" else 2), [1] * count)
+            assert told.value.status == BAD_LENGTH and session.state() == before
+            session.step("solve")
 
 
 def test_pairs_by_hand(library: Library) -> None:
@@ -171,8 +196,24 @@ def listed(losses_of: Mapping[Numbers, int], most: int) -> Rows:
     return [(*numbers, loss) for numbers, loss in rows[:most]]
 
 
-def judge_lists(session: CSession, now: State, pairs: Mapping[Numbers, int], most: int) -> int:
-    """Compare each list with all losses; return how many losses it has that are not 0."""
+def among(losses_of: Mapping[Numbers, int], marks: Sequence[int]) -> dict[Numbers, int]:
+    """The losses of the arcs, or of the pairs of arcs, that the marks choose."""
+    return {
+        numbers: loss
+        for numbers, loss in losses_of.items()
+        if all(marks[number - 1] for number in numbers)
+    }
+
+
+def judge_lists(
+    session: CSession,
+    now: State,
+    pairs: Mapping[Numbers, int],
+    most: int,
+    marks: Sequence[int],
+) -> int:
+    """Compare each list with all losses, also of the marked arcs alone; return how many losses that
+    of pairs has that are not 0."""
     value = session.number("value")
     inner = sorted({*range(1, now.nodes + 1)} - {now.source, now.sink})
     of_arcs: dict[Numbers, int] = {
@@ -183,6 +224,8 @@ def judge_lists(session: CSession, now: State, pairs: Mapping[Numbers, int], mos
     }
     assert worst(session, "arcs", most) == listed(of_arcs, most)
     assert worst(session, "nodes", most) == listed(of_nodes, most)
+    assert worst(session, "arcs", most, marks) == listed(among(of_arcs, marks), most)
+    assert worst(session, "pairs", most, marks) == listed(among(pairs, marks), most)
     found = worst(session, "pairs", most)
     assert found == listed(pairs, most)
     return sum(row[-1] > 0 for row in found)
@@ -213,5 +256,6 @@ def test_random_sessions(library: Library, batch: int, request: pytest.FixtureRe
             chosen = [(random.choice(numbers), random.choice(numbers)) for _ in pairs[:9]]
             assert list(losses(session, chosen)) == closed_in_session(session, chosen)
             most = random.choice([0, 1, 2, 3, 5, 8, 13, 1_000])
-            some_lost += judge_lists(session, now, losses_of, most) > 0
+            marks = [random.choice([0, 1, 1, 200]) for _ in numbers]
+            some_lost += judge_lists(session, now, losses_of, most, marks) > 0
     assert some_lost > count // 4

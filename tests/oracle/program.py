@@ -13,7 +13,7 @@ from .network import Arc, State, is_greatest, solved
 from .problem import read_problem
 from .session import MOST_KEPT, MOST_LINES, Refusals, SolveReply, cut_of, run_lines
 from .solution import read_solution, solution_text
-from .texts import LineFault, written
+from .texts import LARGEST, LineFault, written
 
 MOST_BYTES = 1_073_741_824
 WELL, SOME_REFUSED, NOT_GREATEST = 0, 1, 1
@@ -115,7 +115,7 @@ FLAGS: dict[str, tuple[str, ...]] = {
     "solve": ("--any", "--brief", "--cut", "--progress"),
     "session": ("--brief", "--cut", "--progress"),
     "check": (),
-    "vital": ("--nodes", "--pairs", "--progress"),
+    "vital": ("--nodes", "--pairs", "--progress", "--second"),
 }
 
 
@@ -170,12 +170,31 @@ def values_without(state: State, parts: str) -> list[tuple[tuple[int, ...], int]
     return [(js, value_without(state, lambda number, _: number in js)) for js in chosen]
 
 
+def has_room(state: State) -> bool:
+    """Whether four more arcs like each one are within the limit."""
+    return 5 * sum(arc.cap for arc in state.arcs) <= LARGEST
+
+
+def values_beside(state: State, parts: str, numbers: tuple[int, ...]) -> list[int]:
+    """Where second arcs are asked for, the greatest value with one beside this arc, by a solve of
+    its own."""
+    if parts != "second":
+        return []
+    arcs = (*state.arcs, *(state.arcs[number - 1] for number in numbers))
+    return [solved(replace(state, arcs=arcs, flows=(*state.flows, 0))).value()]
+
+
 def vital(problem: bytes, parts: str, most: int | None) -> Outcome:
     state = judged(read_problem, bounded(problem))
+    if parts == "second" and not has_room(state):
+        raise Ended(STREAM_FAULT, told("no room for second arcs"))
     values = values_without(state, parts)
     if most is not None:
         values = sorted(values, key=lambda row: (row[1], row[0]))[:most]
-    lines = [written("v", *numbers, value) for numbers, value in values]
+    lines = [
+        written("v", *numbers, value, *values_beside(state, parts, numbers))
+        for numbers, value in values
+    ]
     return Outcome(WELL, written("c", "value", solved(state).value()) + b"".join(lines))
 
 
@@ -279,6 +298,8 @@ def asked_of(command: str, words: list[str]) -> Asked | Outcome:
         return REFUSED_WORDS
     if "--pairs" in flags and ("--nodes" in flags or number is None):
         return REFUSED_WORDS
+    if "--second" in flags and (flags & {"--nodes", "--pairs"} or number is not None):
+        return REFUSED_WORDS
     wanted = SolveReply(cut="--cut" in flags, brief="--brief" in flags)
     return Asked(
         command,
@@ -286,7 +307,7 @@ def asked_of(command: str, words: list[str]) -> Asked | Outcome:
         number if command == "session" and number is not None else MOST_KEPT,
         "".join(paths),
         "--any" in flags,
-        next((flag[2:] for flag in ("--nodes", "--pairs") if flag in flags), "arcs"),
+        next((flag[2:] for flag in ("--nodes", "--pairs", "--second") if flag in flags), "arcs"),
         number if command == "vital" else None,
     )
 

@@ -64,6 +64,7 @@ CASES = [
     case("a solve by any flow, with the cut", "solve --any --cut", CROSSED),
     case("what is left without each arc", "vital", CROSSED),
     case("what is left without each node", "vital --nodes", CROSSED),
+    case("what there is with second arcs", "vital --second", CROSSED),
     case("what is left without the worst", "vital --worst 2", CROSSED),
     case("what is left without the worst pairs", "vital --pairs --worst 2", CROSSED),
     case("a check", f"check {PROBLEM.decode()}", CROSSED_FLOW),

@@ -60,6 +60,7 @@ REFUSED_WORDS = {
     "nodes of vital twice": ["vital", "--nodes", "--nodes"],
     "pairs of vital without a number": ["vital", "--pairs"],
     "pairs and nodes of vital": ["vital", "--pairs", "--nodes", "--worst", "1"],
+    "second arcs and the worst of vital": ["vital", "--second", "--worst", "1"],
     "nodes of a solve": ["solve", "--nodes"],
     "the worst of a solve": ["solve", "--worst", "1"],
     "progress of vital twice": ["vital", "--progress", "--progress"],

@@ -97,6 +97,12 @@ CLOSED: dict[str, tuple[set[int], str, bytes, tuple[int, bytes, bytes]]] = {
         A,
         (4, b"", WRITE_FAILED),
     ),
+    "no output of values with second arcs": (
+        {OUTPUT},
+        "vital --second",
+        A,
+        (4, b"", WRITE_FAILED),
+    ),
     "no output of a session": (
         {OUTPUT},
         "session problem.max",
@@ -265,6 +271,11 @@ SMALL = {
         "vital --pairs --worst 2",
         A,
         (0, b"c value 5\nv 1 2 0\nv 1 5 0\n"),
+    ),
+    "second arcs are valued": (
+        "vital --second",
+        A,
+        (0, b"c value 5\nv 1 2 5\nv 2 3 5\nv 3 4 5\nv 4 3 5\nv 5 2 5\n"),
     ),
     "each arc is valued": ("vital", A, (0, b"c value 5\nv 1 2\nv 2 3\nv 3 4\nv 4 3\nv 5 2\n")),
 }

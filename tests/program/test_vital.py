@@ -1,12 +1,14 @@
 """Compares what `dmf vital` writes with whole solves of the network without each arc or each node,
 by networkx, and the worst of them with all: on random networks, on those of each family of the
 benchmark, and on the examples. On small random networks it compares the worst pairs of arcs with
-all of them. `--long` tries 100,000 random networks, and 10,000 for pairs."""
+all of them, and everywhere the values with second arcs with whole solves with one arc more.
+`--long` tries 100,000 random networks, and 10,000 for pairs."""
 
 from __future__ import annotations
 
 from collections.abc import Callable
 from contextlib import suppress
+from dataclasses import replace
 from itertools import combinations, pairwise
 from random import Random
 
@@ -92,6 +94,7 @@ def judge(problem: bytes) -> None:
     judge_rows(problem, [NODES], inner, is_at_node)
     judge_worst(problem, [])
     judge_worst(problem, [NODES])
+    judge_seconds(problem)
 
 
 def judge_pairs(problem: bytes) -> None:
@@ -104,6 +107,24 @@ def judge_pairs(problem: bytes) -> None:
     for most in (0, 1, len(lines) // 2, len(lines), len(lines) + 1):
         worst = vital(problem, b"--pairs", b"--worst", b"%d" % most)
         assert worst == [value, *lines[:most]], most
+
+
+def judge_seconds(problem: bytes) -> None:
+    """Compares the values without and with a second arc beside each with those without, and with
+    whole solves with one arc more beside some. There may be no room only near the limit."""
+    state = read_problem(problem)
+    ran = built.run(Case("values", (b"vital", b"--second"), problem, problem))
+    if ran.status:
+        assert (ran.status, ran.out, ran.err) == (4, b"", b"dmf: no room for second arcs\n")
+        assert 5 * sum(arc.cap for arc in state.arcs) > LARGEST
+        return
+    rows = [row.rpartition(b" ") for row in ran.out.splitlines()]
+    first, *left = vital(problem)
+    assert ran.out.splitlines()[0] == first
+    assert [row[0] for row in rows[1:]] == left
+    for arc, row in list(zip(state.arcs, rows[1:]))[:: max(1, len(left) // LEFT_OUT)]:
+        more = replace(state, arcs=(*state.arcs, arc), flows=(*state.flows, 0))
+        assert int(row[2]) == value_without(more, ())
 
 
 def shares(count: int, random: Random) -> list[int]:
@@ -152,4 +173,6 @@ def test_random_pairs(request: pytest.FixtureRequest) -> None:
     for number in range(MANY_PAIRED if is_long else FEW_PAIRED):
         random = Random(f"pairs {seed}/{number}")
         with suppress(LineFault):
-            judge_pairs(plain_text(problem_lines(small_network(random), random)))
+            problem = plain_text(problem_lines(small_network(random), random))
+            judge_pairs(problem)
+            judge_seconds(problem)

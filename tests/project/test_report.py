@@ -33,8 +33,22 @@ from dmf.desk.project.report import checked, findings, report
 from dmf.desk.project.scenarios import project_of
 from dmf.desk.steps import DeskFault
 from dmf.desk.workspace import Desk
+from dmf.errors import NumberTooLarge
 from project_shared import named, new_project, supply_project, water_project
 from report_page import Page, judge_labels, limits, named_in, rows_below
+
+
+def worst_pairs_of_water() -> list[tuple[str, str, str]]:
+    """The names of the five worst pairs of the story, what is lost and what is left."""
+    pipes = water()
+    left = {
+        pair: greatest([it for it in pipes if it not in pair])
+        for pair in itertools.combinations(pipes, 2)
+    }
+    return [
+        (" and ".join(it.name for it in pair), str(165 - left[pair]), str(left[pair]))
+        for pair in sorted(left, key=left.__getitem__)[:5]
+    ]
 
 
 def test_water(tmp_path: Path) -> None:
@@ -90,7 +104,8 @@ def test_water(tmp_path: Path) -> None:
     costly = sorted((it, name) for name, it in left.items() if it < 165)
     places = {(name, str(165 - it), str(it)) for it, name in costly[:5]}
     assert costly[4][0] < costly[5][0]
-    assert shown <= losses | gains | places and shown >= gains | places
+    pairs = {*worst_pairs_of_water()}
+    assert shown <= losses | gains | places | pairs and shown >= gains | places | pairs
     assert f"and {len(costly) - 5} more" in page.text
     assert (
         "Each value is the most that can be sent with only this pipe closed, or only this place "
@@ -240,6 +255,30 @@ def test_the_worst_of_all_arcs(tmp_path: Path) -> None:
     limit = {row[0] for table in limits(page) for row in table}
     assert {row[0] for row in found} - limit
     assert f"for all {len(graph.edges)} arcs and {len(graph.nodes) - 2} places" in page.text
+
+
+def test_the_worst_pairs(tmp_path: Path, monkeypatch: pytest.MonkeyPatch) -> None:
+    """The five pairs that are worst to lose, beside trying all sets of places without both; of a
+    network that is too large, and of a list that would be too long, none, with a sentence."""
+    desk = water_project(tmp_path)
+    page = Page(report(desk))
+    assert rows_below(page, "closed together") == [[*row] for row in worst_pairs_of_water()]
+    assert "Of all pairs of open pipes, the table lists those that cost most to lose" in page.text
+    said = "There are too many pipes here to find the two that cost most to lose together"
+
+    def refused(*_: object) -> None:
+        raise NumberTooLarge("too many")
+
+    for name, by in ("MOST_PAIRED", 13), ("worst_pairs", refused):
+        with monkeypatch.context() as patched:
+            patched.setattr(project_findings, name, by)
+            page = Page(report(desk))
+            assert said in page.text and "closed together" not in page.text
+            assert len(rows_below(page, "closed")) == 10
+    # Without a flow no pair costs anything.
+    desk.shut(desk.network.names.place("Harbour"))
+    assert "Closed together, no two cost anything." in Page(report(desk)).text
+    desk.end()
 
 
 def test_a_roster(tmp_path: Path) -> None:

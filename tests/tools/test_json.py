@@ -41,7 +41,9 @@ what-if close North rise
 what-if each arc of the cut
 worst 2
 worth Mill Lane
+worth Mill Lane and Bridge pipe
 worst places 2
+worst pairs 2
 worth place Mill
 scenario
 scenario new B from first

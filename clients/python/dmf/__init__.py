@@ -12,7 +12,9 @@ help(dmf.Cut)             the limit: its capacity, its arcs, its two sides
 help(dmf.maximum_flow)    of a graph of networkx or igraph, or a matrix of scipy, in one call;
                           also minimum_cut, value alone, and vital: what is
                           lost without each arc; Network.vital_nodes: or node;
-                          Network.vital_pairs: or two arcs
+                          Network.vital_pairs: or two arcs;
+                          Network.gains: what a second arc would bring,
+                          Network.gains_of: or new arcs
 help(dmf.read)            a network of a file; also from_networkx, from_igraph, from_scipy, and
                           Network.from_arrays, Network.from_frame
 help(dmf.open_project)    a project of dmf-plan: its scenarios, compared; its steps
@@ -84,6 +86,8 @@ if TYPE_CHECKING:
     from .errors import UsedByTwoProcesses as UsedByTwoProcesses
     from .errors import UsedByTwoThreads as UsedByTwoThreads
     from .errors import WrongNumberOfFields as WrongNumberOfFields
+    from .gains import NewArcs as NewArcs
+    from .gains import SecondArcs as SecondArcs
     from .graph_flows import EdgeFlow as EdgeFlow
     from .graph_flows import MatrixFlow as MatrixFlow
     from .graph_networks import from_igraph as from_igraph
@@ -121,6 +125,7 @@ _NAMES = {
     "desk.project.open_project": ["new_project", "open_project"],
     "desk.project.python_project": ["OpenProject"],
     "desk.project.strict_json": ["ProjectFault"],
+    "gains": ["NewArcs", "SecondArcs"],
     "graph_flows": ["EdgeFlow", "MatrixFlow"],
     "graph_networks": ["from_igraph", "from_networkx", "from_scipy"],
     "graphs": ["maximum_flow", "minimum_cut", "value", "vital"],

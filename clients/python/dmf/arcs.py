@@ -259,12 +259,17 @@ class OpenArcs(Sequence[Arc[Node]], Generic[Node]):
     def numbers(self) -> Iterable[int]:
         """Return the numbers of the open arcs, in order."""
         everything = range(1, len(self.columns) + len(self.added) + 1)
+        return compress(everything, self.marks()) if self.closed else everything
+
+    def marks(self) -> bytes:
+        """Return a byte for each arc, in order: 1 if it is open, otherwise 0. Returns no bytes if
+        all are open."""
         if not self.closed:
-            return everything
-        is_open = bytearray(b"\1") * len(everything)
+            return b""
+        is_open = bytearray(b"\1") * (len(self.columns) + len(self.added))
         for number in self.closed:
             is_open[number - 1] = 0
-        return compress(everything, is_open)
+        return bytes(is_open)
 
     def __iter__(self) -> Iterator[Arc[Node]]:
         return map(self.handle, self.numbers())

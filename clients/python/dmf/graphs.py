@@ -24,7 +24,7 @@ from .session.base import (
     problem_pieces,
     where,
 )
-from .session.fresh import CUT, FLOW, VALUE, solved, values_without, worst_without
+from .session.fresh import CUT, FLOW, VALUE, solved, values_without, worst_among
 from .session.runners import chosen, program_of
 from .text.lexical import AMOUNTS, LARGEST
 from .unbounded_arcs import BoundlessFlow, flows_of, solve_unbounded
@@ -358,7 +358,9 @@ def vital(
         finder = Finder(
             problem.nodes,
             lambda part: values_without(problem, part, program_of(program)),
-            lambda ranked, most: worst_without(problem, ranked, most, program_of(program)),
+            lambda ranked, most, among: worst_among(
+                problem, ranked, most, among, program_of(program)
+            ),
         )
         return VitalArcs.of(state.every_arc(), finder, reader.measure, top)
     except Refused as refused:

@@ -4,70 +4,46 @@ pair of its arcs."""
 from __future__ import annotations
 
 from array import array
-from collections.abc import Callable, Iterator, Mapping, Sequence
+from collections.abc import Callable, Container, Mapping, Sequence
 from dataclasses import dataclass
-from functools import partial
 from heapq import nsmallest
-from typing import TYPE_CHECKING, Any, Generic, NamedTuple, TypeVar
+from typing import TYPE_CHECKING, Any, Generic, NamedTuple
 
 from .arcs import Arc, OpenArcs
 from .columns import Node
 from .rows import whole
 from .session.base import Part, Ranked, ValuesWithout, WorstWithout
 from .text.lexical import AMOUNTS
+from .value_differences import Thing, ValueDifferences
 
 if TYPE_CHECKING:
     from .quantity import Measure
 
-# An arc, a node or a pair of arcs.
-Thing = TypeVar("Thing")
 # The most arcs or nodes that a session or the program ranks; for more, all values are sorted.
 MOST_RANKED = 1_000
 
 
 class Finder(NamedTuple):
     """How many nodes a network has, and what finds its greatest values: without each arc or node,
-    and without each of the given number of worst arcs, nodes or pairs, the worst first."""
+    and without each of the given number of worst arcs, nodes or pairs, the worst first, among the
+    arcs that have a mark other than 0, or all if there are no marks."""
 
     node_count: int
     values_without: Callable[[Part], ValuesWithout]
-    worst_without: Callable[[Ranked, int], WorstWithout]
+    worst_without: Callable[[Ranked, int, bytes], WorstWithout]
 
 
-class Losses(Generic[Thing]):
+class Losses(ValueDifferences[Thing]):
     """What is left without each arc, node or pair, in rows: the arc, node or pair, the greatest
     value without it, and the loss."""
 
     __module__ = __package__
+    _number_titles = "without", "loss"
 
-    value: Any
-    values: Sequence[Any]
     losses: Sequence[Any]
-    # What the things are called, and the titles of the columns that name one.
-    _word: str
-    _titles: tuple[str, ...]
 
-    def _things(self) -> Sequence[Thing]:
-        raise NotImplementedError
-
-    def _cells(self, thing: Thing) -> tuple[object, ...]:
-        """Return the cells that name an arc, a node or a pair."""
-        raise NotImplementedError
-
-    def __iter__(self) -> Iterator[tuple[Thing, Any, Any]]:
-        return zip(self._things(), self.values, self.losses)
-
-    def __len__(self) -> int:
-        return len(self.values)
-
-    def __repr__(self) -> str:
-        return f"<{type(self).__name__} of value {self.value} on {len(self)} {self._word}>"
-
-    def _repr_html_(self) -> str:
-        from .notebook import table
-
-        rows = ((*self._cells(thing), left, loss) for thing, left, loss in self)
-        return table(f"value {self.value}", (*self._titles, "without", "loss"), len(self), rows)
+    def _differences(self) -> Sequence[Any]:
+        return self.losses
 
 
 @dataclass(frozen=True, repr=False)
@@ -101,10 +77,11 @@ class VitalArcs(Losses[Arc[Node]], Generic[Node]):
     ) -> VitalArcs[Node]:
         """Return what is found about these arcs: about the `top` of them whose loss costs most, if
         that is given."""
-        most, unseen = _most(top, cls._word), len(arcs.closed)
-        if most is not None and most + unseen <= MOST_RANKED:
-            found = finder.worst_without(Ranked.ARCS, most + unseen)
-            return cls(*_shown(measure, found.value, *_seen(found, partial(_arc, arcs), most)))
+        most = _most(top, cls._word)
+        if most is not None and most <= MOST_RANKED:
+            found = finder.worst_without(Ranked.ARCS, most, arcs.marks())
+            ranked = [*map(arcs.handle, *found.numbers)]
+            return cls(*_shown(measure, found.value, ranked, found.without))
         value, without = finder.values_without(Part.ARC)
         return cls(*_shown(measure, value, *_sorted(arcs, arcs.chosen(without), most)))
 
@@ -112,7 +89,7 @@ class VitalArcs(Losses[Arc[Node]], Generic[Node]):
         return self.arcs
 
     def _cells(self, thing: Arc[Node]) -> tuple[object, ...]:
-        return _cells_of(thing)
+        return cells_of(thing)
 
 
 @dataclass(frozen=True, repr=False)
@@ -149,7 +126,7 @@ class VitalNodes(Losses[Node], Generic[Node]):
         most, by_number = _most(top, cls._word), {number: node for node, number in nodes.items()}
         unseen = finder.node_count - 2 - len(nodes)
         if most is not None and most + unseen <= MOST_RANKED:
-            found = finder.worst_without(Ranked.NODES, most + unseen)
+            found = finder.worst_without(Ranked.NODES, most + unseen, b"")
             return cls(*_shown(measure, found.value, *_seen(found, by_number.get, most)))
         value, without = finder.values_without(Part.NODE)
         left = array(AMOUNTS, (without[number - 1] for number in by_number))
@@ -196,53 +173,81 @@ class VitalPairs(Losses[tuple[Arc[Node], Arc[Node]]], Generic[Node]):
         """Return what is found about pairs of these arcs: about the `top` of them whose loss costs
         most."""
         most = whole(top, "vital_pairs", "a number of pairs")
-
-        def pair(first: int, second: int) -> tuple[Arc[Node], Arc[Node]] | None:
-            one, other = _arc(arcs, first), _arc(arcs, second)
-            return None if one is None or other is None else (one, other)
-
-        asked = most
-        while True:
-            found = finder.worst_without(Ranked.PAIRS, asked)
-            pairs, left = _seen(found, pair, most)
-            if len(pairs) == most or len(found.without) < asked:
-                return cls(*_shown(measure, found.value, pairs, left))
-            # Too many are pairs with an arc that callers do not see.
-            asked *= 4
+        found = finder.worst_without(Ranked.PAIRS, most, arcs.marks())
+        firsts, seconds = (map(arcs.handle, numbers) for numbers in found.numbers)
+        return cls(*_shown(measure, found.value, [*zip(firsts, seconds)], found.without))
 
     def _things(self) -> Sequence[tuple[Arc[Node], Arc[Node]]]:
         return self.pairs
 
     def _cells(self, thing: tuple[Arc[Node], Arc[Node]]) -> tuple[object, ...]:
-        return *_cells_of(thing[0]), *_cells_of(thing[1])
+        return *cells_of(thing[0]), *cells_of(thing[1])
+
+
+def marks_of(numbers: Container[int], count: int) -> bytes:
+    """Return a byte for each of `count` arcs, in order: 1 if its number is one of these, otherwise
+    0."""
+    return bytes(number in numbers for number in range(1, count + 1))
+
+
+class PairsWithout(NamedTuple):
+    """The greatest value, pairs of things, and the greatest value without each of them, the least
+    first."""
+
+    value: int
+    pairs: Sequence[Any]
+    without: array[int]
+
+
+def first_pairs(
+    find: Callable[[int], WorstWithout],
+    pair_of: Callable[[int, int], tuple[Any, Any] | None],
+    most: int,
+    at_first: int = 0,
+) -> PairsWithout:
+    """Return the `most` pairs that cost most to lose, or all if there are fewer.
+
+    Parameters
+    ----------
+    find
+        Returns the given number of worst pairs of arcs.
+    pair_of
+        Returns the pair of things that two arcs stand for, or None. If several pairs of arcs stand
+        for one pair of things, it counts once, with what the first of them leaves.
+    most
+        The number of pairs to return.
+    at_first
+        The number of pairs of arcs that `find` lists at first, if it is more than `most`.
+    """
+    asked = max(most, at_first)
+    while True:
+        found = find(asked)
+        pairs, without = _seen(found, pair_of, most)
+        if len(pairs) == most or len(found.without) < asked:
+            return PairsWithout(found.value, pairs, without)
+        # Too many stand for nothing, or for a pair that was listed before.
+        asked *= 4
 
 
 def _most(top: int | None, word: str) -> int | None:
     return None if top is None else whole(top, "vital", f"a number of {word}")
 
 
-def _arc(arcs: OpenArcs[Node], number: int) -> Arc[Node] | None:
-    """Return the arc with this number, or None if it is not one of these."""
-    return arcs.handle(number) if arcs.is_open(number) else None
-
-
-def _cells_of(arc: Arc[Any]) -> tuple[object, ...]:
+def cells_of(arc: Arc[Any]) -> tuple[object, ...]:
     return arc.number if arc.given_key is None else arc.given_key, arc.tail, arc.head
 
 
 def _seen(
     found: WorstWithout, thing_of: Callable[..., Any], most: int
 ) -> tuple[Sequence[Any], array[int]]:
-    """Return the first `most` things of a list, and the values without them. Numbers whose thing is
-    None are those of arcs and nodes that callers do not see."""
-    things: list[Any] = []
-    values = array(AMOUNTS)
+    """Return the first `most` things of a list, each once, and the values without them. Numbers
+    whose thing is None are those of arcs and nodes that callers do not see."""
+    values: dict[Any, int] = {}
     for *numbers, left in zip(*found.numbers, found.without):
         thing = thing_of(*numbers)
-        if thing is not None and len(things) < most:
-            things.append(thing)
-            values.append(left)
-    return things, values
+        if thing is not None and len(values) < most:
+            values.setdefault(thing, left)
+    return [*values], array(AMOUNTS, values.values())
 
 
 def _sorted(

@@ -11,7 +11,7 @@ from . import arrays
 from .capacities import CapacityReader, Scale
 from .columns import Columns, Node
 from .errors import Refused, SessionEnded
-from .network_losses import VitalNetwork
+from .network_gains import GrowingNetwork
 from .rows import Whole, columns_of
 from .scaled_network import ScaledChanges
 from .session.base import Program, Way, bound, where
@@ -25,7 +25,7 @@ if TYPE_CHECKING:
 Row = Union[Tuple[Node, Node, Whole], Tuple[Node, Node, Whole, Hashable]]
 
 
-class Network(VitalNetwork[Node]):
+class Network(GrowingNetwork[Node]):
     """A network with a flow on it, and its changes. At the beginning the flow is 0.
 
     The arcs are `(tail, head, capacity)` or `(tail, head, capacity, key)`, any number of them

@@ -6,7 +6,6 @@ from typing import TYPE_CHECKING
 
 from .arcs import OpenArcs
 from .columns import Node
-from .errors import NumberTooLarge
 from .network_changes import ChangeableNetwork
 from .session.base import Part, Ranked, ValuesWithout, WorstWithout
 from .session.runners import program_of
@@ -169,21 +168,17 @@ class VitalNetwork(ChangeableNetwork[Node]):
     def _asked_values_without(self, part: Part) -> ValuesWithout | None:
         return self._session.values_without(part)
 
-    def _worst_without(self, ranked: Ranked, most: int) -> WorstWithout:
+    def _worst_without(self, ranked: Ranked, most: int, among: bytes) -> WorstWithout:
         """Return the greatest value without each of the worst, as `_values_without` does."""
-        found = self._asked_worst_without(ranked, most)
+        found = self._asked_worst_without(ranked, most, among)
         if found is not None:
             return found
-        from .session.fresh import MOST_RANKED, worst_without
+        from .session.fresh import judge_count, worst_among
 
-        if most > MOST_RANKED:
-            raise NumberTooLarge(
-                f"{most} {ranked.value}: the program ranks {MOST_RANKED:,} at most; the library "
-                "ranks more after a solve"
-            )
+        judge_count(ranked, most)
         problem = self._kept.copy().problem()
-        return worst_without(problem, ranked, most, program_of(self._session.program))
+        return worst_among(problem, ranked, most, among, program_of(self._session.program))
 
     @exclusive
-    def _asked_worst_without(self, ranked: Ranked, most: int) -> WorstWithout | None:
-        return self._session.worst_without(ranked, most)
+    def _asked_worst_without(self, ranked: Ranked, most: int, among: bytes) -> WorstWithout | None:
+        return self._session.worst_without(ranked, most, among)

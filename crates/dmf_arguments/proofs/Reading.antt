@@ -40,10 +40,10 @@ module _ (kinds : Kinds) (kind : ErrorKind) (fault : WordsFault) (among : (kind 
   short asked clean =
       let memory : fault ≡ NoMemory = elim among [ inl e ↦ tells.memory e | inr one ↦ absurd (subst (IsAmong kind) clean one) ] in (
         λ is. memory,
-        λ cut brief any progress nodes pairs text worst path is. memory,
-        λ cut brief progress any nodes pairs worst text bound path is written. memory,
-        λ cut brief any nodes pairs progress text worst path is. memory,
-        λ nodes pairs progress cut brief any text worst path most is written. no-valuing (parts_of nodes pairs most) progress memory,
+        λ cut brief any progress nodes pairs second text worst path is. memory,
+        λ cut brief progress any nodes pairs second worst text bound path is written. memory,
+        λ cut brief any nodes pairs progress second text worst path is. memory,
+        λ nodes pairs progress second cut brief any text worst path most is written. no-valuing (parts_of second nodes pairs most) progress memory,
       )
 
   -- Where a parse gives some kinds of fault, the answer tells of one of these.
@@ -51,24 +51,25 @@ module _ (kinds : Kinds) (kind : ErrorKind) (fault : WordsFault) (among : (kind 
   told first others are = elim among [ inl e ↦ inl (tells.memory e) | inr one ↦ inr (kind, subst (IsAmong kind) are one, tells) ]
 
 -- What the arguments of a parsed command ask for.
-pub record AskedRows (rows : List Row) (flag brief any nodes pairs progress bound worst path : Option Text) : Type 0 where
+pub record AskedRows (rows : List Row) (flag brief any nodes pairs progress second bound worst path : Option Text) : Type 0 where
   pub flag_is : one_of (codes "cut") rows ≡ flag
   pub brief_is : one_of (codes "brief") rows ≡ brief
   pub any_is : one_of (codes "any") rows ≡ any
   pub nodes_is : one_of (codes "nodes") rows ≡ nodes
   pub pairs_is : one_of (codes "pairs") rows ≡ pairs
   pub progress_is : one_of (codes "progress") rows ≡ progress
+  pub second_is : one_of (codes "second") rows ≡ second
   pub bound_is : one_of (codes "history") rows ≡ bound
   pub worst_is : one_of (codes "worst") rows ≡ worst
   pub path_is : first_of (codes "problem") rows ≡ path
 
 -- Where a command was found, what is asked for is what its rows say.
-pub asked_rows : (found : Option (Text × List Row)) (rows : List Row) (name : Text) (flag brief any nodes pairs progress bound worst path : Option Text)
+pub asked_rows : (found : Option (Text × List Row)) (rows : List Row) (name : Text) (flag brief any nodes pairs progress second bound worst path : Option Text)
     → Some rows ≡ option_map (λ p. p.1) found → asked_of found
-    ≡ Some (record { command = name; cut = flag; brief = brief; any = any; nodes = nodes; pairs = pairs; progress = progress; history = bound; worst = worst; problem = path })
-    → AskedRows rows flag brief any nodes pairs progress bound worst path
-asked_rows None rows name flag brief any nodes pairs progress bound worst path has asked = cc
-asked_rows (Some p) rows name flag brief any nodes pairs progress bound worst path has asked =
+    ≡ Some (record { command = name; cut = flag; brief = brief; any = any; nodes = nodes; pairs = pairs; progress = progress; second = second; history = bound; worst = worst; problem = path })
+    → AskedRows rows flag brief any nodes pairs progress second bound worst path
+asked_rows None rows name flag brief any nodes pairs progress second bound worst path has asked = cc
+asked_rows (Some p) rows name flag brief any nodes pairs progress second bound worst path has asked =
     let same : rows ≡ p.1 = cc in
     rw same (record {
       flag_is = ap (option_and_then (λ (q : Asked). q.cut)) asked;
@@ -77,6 +78,7 @@ asked_rows (Some p) rows name flag brief any nodes pairs progress bound worst pa
       nodes_is = ap (option_and_then (λ (q : Asked). q.nodes)) asked;
       pairs_is = ap (option_and_then (λ (q : Asked). q.pairs)) asked;
       progress_is = ap (option_and_then (λ (q : Asked). q.progress)) asked;
+      second_is = ap (option_and_then (λ (q : Asked). q.second)) asked;
       bound_is = ap (option_and_then (λ (q : Asked). q.history)) asked;
       worst_is = ap (option_and_then (λ (q : Asked). q.worst)) asked;
       path_is = ap (option_and_then (λ (q : Asked). q.problem)) asked;
@@ -107,6 +109,6 @@ most_reads (Some text) None read all some is = absurd is
 most_reads (Some text) (Some most) read all some is = some text most refl is
 
 -- The parts are those that equal options ask for.
-pub same-parts : {nodes wanted pairs also : Bool} {worst most : Option ℕ} → nodes ≡ wanted → pairs ≡ also → worst ≡ most
-    → parts_of nodes pairs worst ≡ parts_of wanted also most
-same-parts n p w = rw (n, p, w) refl
+pub same-parts : {second two nodes wanted pairs also : Bool} {worst most : Option ℕ} → second ≡ two → nodes ≡ wanted → pairs ≡ also → worst ≡ most
+    → parts_of second nodes pairs worst ≡ parts_of two wanted also most
+same-parts s n p w = rw (s, n, p, w) refl

@@ -49,8 +49,8 @@ check_line = with_rule (new_app (codes "check")) problem_rule
 
 abbrev pub vital_line : App
 vital_line =
-    with_rule (with_rule (with_rule (with_rule (new_app (codes "vital")) (flag_rule (codes "nodes"))) (flag_rule (codes "pairs")))
-    (flag_rule (codes "progress"))) worst_rule
+    with_rule (with_rule (with_rule (with_rule (with_rule (new_app (codes "vital")) (flag_rule (codes "nodes"))) (flag_rule (codes "pairs")))
+    (flag_rule (codes "progress"))) (flag_rule (codes "second"))) worst_rule
 
 -- the program itself, which has a version
 abbrev pub program_line : App
@@ -68,7 +68,7 @@ IsRule rule arg = (rule_of arg ≡ rule) × (arg.global ≡ false)
 abbrev pub IsCommandLine : App → Command → Type 0
 IsCommandLine line made = (app_of made ≡ line) × ((fields_of made).has_globals ≡ false)
 
--- the command that a parse finds, with the texts of its six flags, of its two numbers and of its path, where it has them
+-- the command that a parse finds, with the texts of its seven flags, of its two numbers and of its path, where it has them
 pub record Asked : Type 0 where
   pub command : Text
   pub cut : Option Text
@@ -77,6 +77,7 @@ pub record Asked : Type 0 where
   pub nodes : Option Text
   pub pairs : Option Text
   pub progress : Option Text
+  pub second : Option Text
   pub history : Option Text
   pub worst : Option Text
   pub problem : Option Text
@@ -90,6 +91,7 @@ asked_of = option_map (λ found. record {
   nodes = one_of (codes "nodes") found.1;
   pairs = one_of (codes "pairs") found.1;
   progress = one_of (codes "progress") found.1;
+  second = one_of (codes "second") found.1;
   history = one_of (codes "history") found.1;
   worst = one_of (codes "worst") found.1;
   problem = first_of (codes "problem") found.1;

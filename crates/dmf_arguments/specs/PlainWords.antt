@@ -32,7 +32,8 @@ abbrev pub IsTaken : List Text → Option Asked → Type 0
 IsTaken words asked = HasFaults [] words × ((name : Text) → asked_in (name ∷ words) ≡ asked)
 
 -- a solve, with the cut, a brief answer, any greatest flow and progress or without; a session, with the cut, brief replies and progress or
--- without; a check; a valuing of each arc or of each node, of all or of the worst, or of the worst pairs of arcs, with progress or without
+-- without; a check; a valuing of each arc or of each node, of all or of the worst, of the worst pairs of arcs, or of second arcs, with
+-- progress or without
 abbrev pub solve_of : Bool → Bool → Bool → Bool → Option Asked
 solve_of cut brief any progress =
     Some (record {
@@ -43,6 +44,7 @@ solve_of cut brief any progress =
       nodes = None;
       pairs = None;
       progress = Some (bool_text progress);
+      second = None;
       history = None;
       worst = None;
       problem = None;
@@ -58,6 +60,7 @@ session_of cut brief progress path =
       nodes = None;
       pairs = None;
       progress = Some (bool_text progress);
+      second = None;
       history = Some (codes "1000000");
       worst = None;
       problem = Some path;
@@ -65,10 +68,10 @@ session_of cut brief progress path =
 
 abbrev pub check_of : Text → Option Asked
 check_of path =
-    Some (record { command = codes "check"; cut = None; brief = None; any = None; nodes = None; pairs = None; progress = None; history = None; worst = None; problem = Some path })
+    Some (record { command = codes "check"; cut = None; brief = None; any = None; nodes = None; pairs = None; progress = None; second = None; history = None; worst = None; problem = Some path })
 
-abbrev pub vital_of : Bool → Bool → Bool → Option Text → Option Asked
-vital_of nodes pairs progress worst =
+abbrev pub vital_of : Bool → Bool → Bool → Bool → Option Text → Option Asked
+vital_of nodes pairs progress second worst =
     Some (record {
       command = codes "vital";
       cut = None;
@@ -77,6 +80,7 @@ vital_of nodes pairs progress worst =
       nodes = Some (bool_text nodes);
       pairs = Some (bool_text pairs);
       progress = Some (bool_text progress);
+      second = Some (bool_text second);
       history = None;
       worst = worst;
       problem = None;
@@ -85,17 +89,17 @@ vital_of nodes pairs progress worst =
 -- words that begin with an option, whatever stands after it
 abbrev pub misplaced : List Text → List (List Text)
 misplaced rest = (codes "--cut" ∷ rest) ∷ (codes "--brief" ∷ rest) ∷ (codes "--any" ∷ rest) ∷ (codes "--nodes" ∷ rest) ∷ (codes "--pairs" ∷ rest)
-    ∷ (codes "--progress" ∷ rest) ∷ (codes "--history" ∷ rest) ∷ (codes "--worst" ∷ rest) ∷ []
+    ∷ (codes "--progress" ∷ rest) ∷ (codes "--second" ∷ rest) ∷ (codes "--history" ∷ rest) ∷ (codes "--worst" ∷ rest) ∷ []
 
 -- words with an option after a command that does not take it
 abbrev pub strange : Text → List (List Text)
 strange word = (codes "solve" ∷ codes "--history" ∷ word ∷ []) ∷ (codes "solve" ∷ codes "--worst" ∷ word ∷ [])
-    ∷ (codes "solve" ∷ codes "--nodes" ∷ word ∷ []) ∷ (codes "solve" ∷ codes "--pairs" ∷ word ∷ [])
+    ∷ (codes "solve" ∷ codes "--nodes" ∷ word ∷ []) ∷ (codes "solve" ∷ codes "--pairs" ∷ word ∷ []) ∷ (codes "solve" ∷ codes "--second" ∷ word ∷ [])
     ∷ (codes "session" ∷ codes "--any" ∷ word ∷ []) ∷ (codes "session" ∷ codes "--nodes" ∷ word ∷ []) ∷ (codes "session" ∷ codes "--pairs" ∷ word ∷ [])
-    ∷ (codes "session" ∷ codes "--worst" ∷ word ∷ [])
+    ∷ (codes "session" ∷ codes "--second" ∷ word ∷ []) ∷ (codes "session" ∷ codes "--worst" ∷ word ∷ [])
     ∷ (codes "check" ∷ codes "--any" ∷ word ∷ []) ∷ (codes "check" ∷ codes "--cut" ∷ word ∷ []) ∷ (codes "check" ∷ codes "--brief" ∷ word ∷ [])
     ∷ (codes "check" ∷ codes "--nodes" ∷ word ∷ []) ∷ (codes "check" ∷ codes "--pairs" ∷ word ∷ []) ∷ (codes "check" ∷ codes "--progress" ∷ word ∷ []) ∷ (codes "check" ∷ codes "--history" ∷ word ∷ [])
-    ∷ (codes "check" ∷ codes "--worst" ∷ word ∷ [])
+    ∷ (codes "check" ∷ codes "--second" ∷ word ∷ []) ∷ (codes "check" ∷ codes "--worst" ∷ word ∷ [])
     ∷ (codes "vital" ∷ codes "--any" ∷ word ∷ []) ∷ (codes "vital" ∷ codes "--cut" ∷ word ∷ []) ∷ (codes "vital" ∷ codes "--brief" ∷ word ∷ [])
     ∷ (codes "vital" ∷ codes "--history" ∷ word ∷ []) ∷ []
 
@@ -105,7 +109,8 @@ repeated word = (codes "solve" ∷ codes "--any" ∷ codes "--any" ∷ []) ∷ (
     ∷ (codes "solve" ∷ codes "--cut" ∷ codes "--cut" ∷ []) ∷ (codes "solve" ∷ codes "--progress" ∷ codes "--progress" ∷ [])
     ∷ (codes "session" ∷ codes "--cut" ∷ codes "--cut" ∷ word ∷ []) ∷ (codes "session" ∷ codes "--brief" ∷ codes "--brief" ∷ word ∷ [])
     ∷ (codes "session" ∷ codes "--progress" ∷ codes "--progress" ∷ word ∷ []) ∷ (codes "vital" ∷ codes "--nodes" ∷ codes "--nodes" ∷ [])
-    ∷ (codes "vital" ∷ codes "--pairs" ∷ codes "--pairs" ∷ []) ∷ (codes "vital" ∷ codes "--progress" ∷ codes "--progress" ∷ []) ∷ []
+    ∷ (codes "vital" ∷ codes "--pairs" ∷ codes "--pairs" ∷ []) ∷ (codes "vital" ∷ codes "--progress" ∷ codes "--progress" ∷ [])
+    ∷ (codes "vital" ∷ codes "--second" ∷ codes "--second" ∷ []) ∷ []
 
 -- words that ask for help: alone, whatever stands after it, and after a command
 abbrev pub helps : List Text → List (List Text)
@@ -125,13 +130,14 @@ pub record PlainWords : Type 0 where
   pub session_cut : (path : Text) → IsPlain path → IsTaken (codes "session" ∷ codes "--cut" ∷ path ∷ []) (session_of true false false path)
   pub cut_behind : (path : Text) → IsPlain path → IsTaken (codes "session" ∷ path ∷ codes "--cut" ∷ []) (session_of true false false path)
   pub check : (path : Text) → IsPlain path → IsTaken (codes "check" ∷ path ∷ []) (check_of path)
-  pub vital : IsTaken (codes "vital" ∷ []) (vital_of false false false None)
-  pub vital_progress : IsTaken (codes "vital" ∷ codes "--progress" ∷ []) (vital_of false false true None)
-  pub vital_nodes : IsTaken (codes "vital" ∷ codes "--nodes" ∷ []) (vital_of true false false None)
-  pub vital_both : IsTaken (codes "vital" ∷ codes "--progress" ∷ codes "--nodes" ∷ []) (vital_of true false true None)
-  pub vital_worst : IsTaken (codes "vital" ∷ codes "--worst" ∷ codes "10" ∷ []) (vital_of false false false (Some (codes "10")))
-  pub vital_worst_nodes : IsTaken (codes "vital" ∷ codes "--nodes" ∷ codes "--worst" ∷ codes "0" ∷ []) (vital_of true false false (Some (codes "0")))
-  pub vital_worst_pairs : IsTaken (codes "vital" ∷ codes "--pairs" ∷ codes "--worst" ∷ codes "2" ∷ []) (vital_of false true false (Some (codes "2")))
+  pub vital : IsTaken (codes "vital" ∷ []) (vital_of false false false false None)
+  pub vital_progress : IsTaken (codes "vital" ∷ codes "--progress" ∷ []) (vital_of false false true false None)
+  pub vital_nodes : IsTaken (codes "vital" ∷ codes "--nodes" ∷ []) (vital_of true false false false None)
+  pub vital_both : IsTaken (codes "vital" ∷ codes "--progress" ∷ codes "--nodes" ∷ []) (vital_of true false true false None)
+  pub vital_second : IsTaken (codes "vital" ∷ codes "--second" ∷ []) (vital_of false false false true None)
+  pub vital_worst : IsTaken (codes "vital" ∷ codes "--worst" ∷ codes "10" ∷ []) (vital_of false false false false (Some (codes "10")))
+  pub vital_worst_nodes : IsTaken (codes "vital" ∷ codes "--nodes" ∷ codes "--worst" ∷ codes "0" ∷ []) (vital_of true false false false (Some (codes "0")))
+  pub vital_worst_pairs : IsTaken (codes "vital" ∷ codes "--pairs" ∷ codes "--worst" ∷ codes "2" ∷ []) (vital_of false true false false (Some (codes "2")))
   pub no_path : HasFaults (MissingRequiredArgument ∷ []) (codes "session" ∷ []) × HasFaults (MissingRequiredArgument ∷ []) (codes "check" ∷ [])
   pub solve_path : (path : Text) → IsPlain path → HasFaults (UnknownArgument ∷ []) (codes "solve" ∷ path ∷ [])
   pub vital_path : (path : Text) → IsPlain path → HasFaults (UnknownArgument ∷ []) (codes "vital" ∷ path ∷ [])

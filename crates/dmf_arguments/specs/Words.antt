@@ -11,7 +11,7 @@ use Rattle.dmf_arguments.specs.declared.words.Arguments.{Arguments}
 use Rattle.dmf_arguments.specs.declared.words.Mode.{Mode}
 use Rattle.dmf_arguments.specs.declared.words.Mode.TheVariants as mode
 use Rattle.dmf_arguments.specs.declared.words.Parts.{Parts}
-use Rattle.dmf_arguments.specs.declared.words.Parts.TheVariants.{Arcs, Nodes, WorstArcs, WorstNodes, WorstPairs}
+use Rattle.dmf_arguments.specs.declared.words.Parts.TheVariants.{Arcs, Nodes, Seconds, WorstArcs, WorstNodes, WorstPairs}
 use Rattle.dmf_arguments.specs.declared.words.WordsFault.{WordsFault}
 use Rattle.dmf_arguments.specs.declared.words.WordsFault.TheVariants.{Help, Usage, NoMemory}
 
@@ -68,20 +68,26 @@ IsMost None (Some most) = ⊥
 IsMost (Some text) None = ⊥
 IsMost (Some text) (Some most) = IsNumberUpTo 10000 text most
 
--- The parts that are left out if nodes, pairs and so many of the worst are asked for: pairs only with a number of them, and not with nodes.
-abbrev pub parts_of : Bool → Bool → Option ℕ → Option Parts
-parts_of false false None = Some Arcs
-parts_of true false None = Some Nodes
-parts_of false false (Some most) = Some (WorstArcs most)
-parts_of true false (Some most) = Some (WorstNodes most)
-parts_of false true (Some most) = Some (WorstPairs most)
-parts_of false true None = None
-parts_of true true most = None
+-- The parts that are left out if second arcs, nodes, pairs and so many of the worst are asked for: pairs only with a number of them, and not
+-- with nodes, and second arcs alone.
+abbrev pub parts_of : Bool → Bool → Bool → Option ℕ → Option Parts
+parts_of false false false None = Some Arcs
+parts_of false true false None = Some Nodes
+parts_of false false false (Some most) = Some (WorstArcs most)
+parts_of false true false (Some most) = Some (WorstNodes most)
+parts_of false false true (Some most) = Some (WorstPairs most)
+parts_of false false true None = None
+parts_of false true true most = None
+parts_of true false false None = Some Seconds
+parts_of true false false (Some most) = None
+parts_of true false true most = None
+parts_of true true pairs most = None
 
 -- The words give what is asked for, or, where that can't be given, a fault.
-abbrev pub GivesParts : Bool → Bool → Option ℕ → Result Parts WordsFault → Type 0
-GivesParts nodes pairs most result =
-    MatchResult result (λ parts. parts_of nodes pairs most ≡ Some parts) (λ fault. (parts_of nodes pairs most ≡ None) × IsUsage fault)
+abbrev pub GivesParts : Bool → Bool → Bool → Option ℕ → Result Parts WordsFault → Type 0
+GivesParts second nodes pairs most result =
+    MatchResult result (λ parts. parts_of second nodes pairs most ≡ Some parts)
+    (λ fault. (parts_of second nodes pairs most ≡ None) × IsUsage fault)
 
 -- Reading the words gave the task that leaves these out, or, of none, told what is wrong with them.
 abbrev pub GivesValuing : Option Parts → Bool → Result Arguments WordsFault → Type 0
@@ -95,7 +101,7 @@ abbrev pub AsksNothing : Option Asked → Result Arguments WordsFault → Type 0
 AsksNothing asked result = asked ≡ None → GivesTask (solving false false false false) result
 
 abbrev pub AsksSolve : Option Asked → Result Arguments WordsFault → Type 0
-AsksSolve asked result = (cut brief any progress : Bool) (nodes pairs text worst path : Option Text)
+AsksSolve asked result = (cut brief any progress : Bool) (nodes pairs second text worst path : Option Text)
     → asked ≡ Some (record {
       command = codes "solve";
       cut = Some (bool_text cut);
@@ -104,6 +110,7 @@ AsksSolve asked result = (cut brief any progress : Bool) (nodes pairs text worst
       nodes = nodes;
       pairs = pairs;
       progress = Some (bool_text progress);
+      second = second;
       history = text;
       worst = worst;
       problem = path;
@@ -111,7 +118,7 @@ AsksSolve asked result = (cut brief any progress : Bool) (nodes pairs text worst
     → GivesTask (solving cut brief any progress) result
 
 abbrev pub AsksSession : Option Asked → Result Arguments WordsFault → Type 0
-AsksSession asked result = (cut brief progress : Bool) (any nodes pairs worst : Option Text) (text : Text) (bound : ℕ) (path : Text)
+AsksSession asked result = (cut brief progress : Bool) (any nodes pairs second worst : Option Text) (text : Text) (bound : ℕ) (path : Text)
     → asked ≡ Some (record {
       command = codes "session";
       cut = Some (bool_text cut);
@@ -120,6 +127,7 @@ AsksSession asked result = (cut brief progress : Bool) (any nodes pairs worst : 
       nodes = nodes;
       pairs = pairs;
       progress = Some (bool_text progress);
+      second = second;
       history = Some text;
       worst = worst;
       problem = Some path;
@@ -127,12 +135,12 @@ AsksSession asked result = (cut brief progress : Bool) (any nodes pairs worst : 
     → IsBound text bound → GivesTask (holding cut brief progress bound path) result
 
 abbrev pub AsksCheck : Option Asked → Result Arguments WordsFault → Type 0
-AsksCheck asked result = (cut brief any nodes pairs progress text worst : Option Text) (path : Text)
-    → asked ≡ Some (record { command = codes "check"; cut = cut; brief = brief; any = any; nodes = nodes; pairs = pairs; progress = progress; history = text; worst = worst; problem = Some path })
+AsksCheck asked result = (cut brief any nodes pairs progress second text worst : Option Text) (path : Text)
+    → asked ≡ Some (record { command = codes "check"; cut = cut; brief = brief; any = any; nodes = nodes; pairs = pairs; progress = progress; second = second; history = text; worst = worst; problem = Some path })
     → GivesTask (checking path) result
 
 abbrev pub AsksVital : Option Asked → Result Arguments WordsFault → Type 0
-AsksVital asked result = (nodes pairs progress : Bool) (cut brief any text worst path : Option Text) (most : Option ℕ)
+AsksVital asked result = (nodes pairs progress second : Bool) (cut brief any text worst path : Option Text) (most : Option ℕ)
     → asked ≡ Some (record {
       command = codes "vital";
       cut = cut;
@@ -141,11 +149,12 @@ AsksVital asked result = (nodes pairs progress : Bool) (cut brief any text worst
       nodes = Some (bool_text nodes);
       pairs = Some (bool_text pairs);
       progress = Some (bool_text progress);
+      second = Some (bool_text second);
       history = text;
       worst = worst;
       problem = path;
     })
-    → IsMost worst most → GivesValuing (parts_of nodes pairs most) progress result
+    → IsMost worst most → GivesValuing (parts_of second nodes pairs most) progress result
 
 abbrev pub Asks : Option Asked → Result Arguments WordsFault → Type 0
 Asks asked result = AsksNothing asked result × AsksSolve asked result × AsksSession asked result × AsksCheck asked result × AsksVital asked result

@@ -30,6 +30,9 @@ pub const PAIRS: &str = "Leave out pairs of arcs; needs --worst";
 /// The option `--progress`.
 pub const PROGRESS: &str = "Tell on standard error how far it is";
 
+/// The option `--second`.
+pub const SECOND: &str = "Also print the greatest value with a second arc beside each";
+
 /// The option `--worst`.
 pub const WORST: &str = "Write the N whose loss costs most, the worst first";
 
@@ -53,7 +56,7 @@ pub const PROGRAM: Help = Help {
     usage: "dmf [solve [--any] [--brief] [--cut] [--progress]] <FILE
        dmf session [--brief] [--cut] [--history N] [--progress] PROBLEM
        dmf check PROBLEM <SOLUTION
-       dmf vital [--nodes | --pairs] [--progress] [--worst N] <FILE",
+       dmf vital [--nodes | --pairs | --second] [--progress] [--worst N] <FILE",
     notes: "How much can the network carry, and where is its limit?
   $ dmf solve --cut <network.max | grep -v '^f'
   s 5
@@ -174,7 +177,7 @@ status 1. man dmf has the formats.",
 /// The help of `dmf vital`.
 pub const VITAL: Help = Help {
     about: "Find how much can be sent without each arc, node or pair of arcs",
-    usage: "dmf vital [--nodes | --pairs] [--progress] [--worst N] <FILE",
+    usage: "dmf vital [--nodes | --pairs | --second] [--progress] [--worst N] <FILE",
     notes: "Example:
   $ dmf vital <network.max
   c value 5
@@ -208,6 +211,16 @@ can be sent if both are closed:
   c value 5
   v 1 2 0
   v 1 5 0
+
+With --second each line v ends with how much can be sent if a second arc like it
+stands beside the arc:
+  $ dmf vital --second <network.max
+  c value 5
+  v 1 2 5
+  v 2 3 5
+  v 3 4 5
+  v 4 3 5
+  v 5 2 5
 
 man dmf has the formats.",
 };

@@ -8,4 +8,5 @@ pub use words::{
 
 mod help;
 mod laws;
+mod parts;
 mod words;

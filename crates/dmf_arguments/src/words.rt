@@ -1,12 +1,13 @@
 //! The words of the program's arguments: what they ask for.
-ghost use Rattle.std.specs.Prelude.{ℕ, ◌≡◌, ◌≢◌, ◌≤◌, IfOk, None, Some, codes, map, true};
+ghost use Rattle.std.specs.Prelude.{ℕ, ◌≡◌, ◌≤◌, IfOk, None, Some, codes, map};
 ghost use Rattle.clap.specs.Words.{app_of, first_value, found_of, kind_of, new_app, one_text, subcommand_rows_of, Text};
 ghost use Rattle.dmf_arguments.specs.CommandLine.{IsCommandLine, IsRule, asked_of, arguments, flag_rule, history_rule, problem_rule};
 ghost use Rattle.dmf_arguments.specs.CommandLine.{check_line, program_line, session_line, solve_line, vital_line, worst_rule};
-ghost use Rattle.dmf_arguments.specs.Words.{AsksCheck, AsksNothing, AsksSession, AsksSolve, AsksVital, GivesParts, HasBound, IsBound, IsNumberUpTo, IsUsage, ReadsMode, ReadsWords, TellsKind};
+ghost use Rattle.dmf_arguments.specs.Words.{AsksCheck, AsksNothing, AsksSession, AsksSolve, AsksVital, HasBound, IsBound, IsNumberUpTo, ReadsMode, ReadsWords, TellsKind};
 
 use crate::help;
 use crate::help::Help;
+use crate::parts::parts_of;
 use clap::error::ErrorKind;
 use clap::{Arg, ArgAction, ArgMatches, Command, Error, value_parser};
 use std::alloc::{AllocError, Global};
@@ -17,24 +18,20 @@ pub const MAX_HISTORY: u32 = 1_000_000;
 /// The largest number that `--worst` takes.
 pub const MAX_WORST: u32 = 10_000;
 
-/// What is told where pairs are asked for without `--worst`, in the words of clap.
-const NO_WORST: &str = "the following required arguments were not provided:\n  --worst <N>";
-
-/// What is told where pairs and nodes are asked for, in the words of clap.
-const PAIRS_AND_NODES: &str = "the argument '--nodes' cannot be used with '--pairs'";
-
 /// What is left out of a network in turn.
 #[derive(Clone, Copy, Debug, PartialEq, Eq)]
 pub enum Parts {
     /// Each arc.
     Arcs,
+    /// Each arc, and besides a second one is put beside each.
+    Seconds,
     /// Each node but the source and the sink.
     Nodes,
-    /// The arcs that cost most to lose, at most so many.
+    /// The given number of arcs, those that cost most to lose.
     WorstArcs(u32),
-    /// The nodes that cost most to lose, at most so many.
+    /// The given number of nodes, those that cost most to lose.
     WorstNodes(u32),
-    /// The pairs of arcs that cost most to lose together, at most so many.
+    /// The given number of pairs of arcs, those that cost most to lose together.
     WorstPairs(u32),
 }
 
@@ -111,8 +108,8 @@ pub fn read_words(alloc: Global, words: Vec<String>) -> Result<Mode, WordsFault>
 ///
 /// No words after it, or `solve`, ask for [`Mode::Solve`]. `session PROBLEM` asks for [`Mode::Session`], `check PROBLEM` for
 /// [`Mode::Check`], and `vital` for [`Mode::Vital`]. The flags `--brief`, `--cut` and `--progress` may stand after `solve` and `session`,
-/// `--any` after `solve` alone, `--history N` after `session` alone, `--nodes`, `--pairs` and `--worst N` after `vital` alone, and
-/// `--progress` after `vital` too. `--pairs` stands with `--worst N`, and not with `--nodes`. The N of `--history` is a number up to [`MAX_HISTORY`], which is its default, and that of `--worst` one up to [`MAX_WORST`]. `--help` may stand after each command or alone. A PROBLEM that begins with a dash stands after `--`.
+/// `--any` after `solve` alone, `--history N` after `session` alone, `--nodes`, `--pairs`, `--second` and `--worst N` after `vital` alone,
+/// and `--progress` after `vital` too. `--pairs` stands with `--worst N`, and not with `--nodes`, and `--second` with none of these three. The N of `--history` is a number up to [`MAX_HISTORY`], which is its default, and that of `--worst` one up to [`MAX_WORST`]. `--help` may stand after each command or alone. A PROBLEM that begins with a dash stands after `--`.
 ///
 /// `--help` gives [`WordsFault::Help`], and so do `help`, alone or before a command, and `--version` alone. All other words give
 /// [`WordsFault::Usage`]. The texts are those of `clap`. [`WordsFault::NoMemory`] may come in place of any answer.
@@ -192,13 +189,14 @@ fn check<'a>(alloc: Global) -> Result<Command<'a>, AllocError>
 
 /// The command `vital`.
 #[inline(never)]
-fn vital<'a>(alloc: Global) -> Result<Command<'a>, AllocError>
+pub fn vital<'a>(alloc: Global) -> Result<Command<'a>, AllocError>
     ensures { IfOk result (IsCommandLine vital_line) }
 {
     named(alloc, "vital", help::VITAL)
         .arg(flag(alloc, "nodes", help::NODES))?
         .arg(flag(alloc, "pairs", help::PAIRS))?
         .arg(flag(alloc, "progress", help::PROGRESS))?
+        .arg(flag(alloc, "second", help::SECOND))?
         .arg(worst(alloc))
 }
 
@@ -279,6 +277,7 @@ fn arguments_of(alloc: Global, matches: &ArgMatches<'_>) -> Result<Arguments, Wo
             mode: Mode::Vital {
                 parts: parts_of(
                     alloc,
+                    vital.get_flag("second"),
                     vital.get_flag("nodes"),
                     vital.get_flag("pairs"),
                     worst_of(vital),
@@ -325,58 +324,6 @@ fn worst_of(matches: &ArgMatches<'_>) -> Option<u32>
     matches.get_one::<u32>("worst")
 }
 
-/// The parts that these options of `vital` ask for.
-fn parts_of(
-    alloc: Global,
-    nodes: bool,
-    pairs: bool,
-    worst: Option<u32>,
-) -> Result<Parts, WordsFault>
-    ensures { GivesParts nodes pairs worst result }
-{
-    if pairs {
-        return pairs_of(alloc, nodes, worst);
-    }
-    match worst {
-        Some(most) if nodes => Ok(Parts::WorstNodes(most)),
-        Some(most) => Ok(Parts::WorstArcs(most)),
-        None if nodes => Ok(Parts::Nodes),
-        None => Ok(Parts::Arcs),
-    }
-}
-
-/// The pairs that are asked for, unless nodes are, too, or all pairs.
-fn pairs_of(alloc: Global, nodes: bool, worst: Option<u32>) -> Result<Parts, WordsFault>
-    ensures { GivesParts nodes true worst result }
-{
-    if nodes {
-        return Err(refused(alloc, ErrorKind::ArgumentConflict, PAIRS_AND_NODES));
-    }
-    match worst {
-        Some(most) => Ok(Parts::WorstPairs(most)),
-        None => Err(refused(alloc, ErrorKind::MissingRequiredArgument, NO_WORST)),
-    }
-}
-
-/// Why the program does not take words of `vital` that clap takes.
-fn refused(alloc: Global, kind: ErrorKind, message: &str) -> WordsFault
-    requires no_help { kind ≢ ErrorKind.DisplayHelp }
-    requires no_version { kind ≢ ErrorKind.DisplayVersion }
-    ensures { IsUsage result }
-{
-    match vital_error(alloc, kind, message) {
-        Ok(error) => fault_of(alloc, &error),
-        Err(_) => WordsFault::NoMemory,
-    }
-}
-
-/// A fault of the command `vital`, in the form of those of clap.
-fn vital_error(alloc: Global, kind: ErrorKind, message: &str) -> Result<Error, AllocError>
-    ensures { IfOk result (λ error. kind_of error ≡ kind) }
-{
-    vital(alloc)?.error(kind, message)
-}
-
 /// The path of the problem's file. It is required, so it is there.
 fn path_of(alloc: Global, matches: &ArgMatches<'_>) -> Result<String, AllocError>
     ensures { (path : Text) → first_value (found_of matches.now) (codes "problem") ≡ Some path
@@ -386,7 +333,7 @@ fn path_of(alloc: Global, matches: &ArgMatches<'_>) -> Result<String, AllocError
 }
 
 /// Why the program does not take the words.
-fn fault_of(alloc: Global, error: &Error) -> WordsFault
+pub fn fault_of(alloc: Global, error: &Error) -> WordsFault
     ensures { TellsKind (kind_of error.now) result }
 {
     if error.kind() == ErrorKind::OutOfMemory {

@@ -7,3 +7,4 @@ pub mod Siding
 pub mod Maximum
 pub mod Fitting
 pub mod Lost
+pub mod Gaining

@@ -7,6 +7,7 @@ pub mod Built
 pub mod Opening
 pub mod Arrays
 pub mod Pairs
+pub mod Gains
 pub mod Ranges
 pub mod Worst
 pub mod MaximumFlow

@@ -35,7 +35,7 @@ pub fn build_network(
     Ok(state)
 }
 
-fn fault_code(fault: NetFault) -> u32
+pub fn fault_code(fault: NetFault) -> u32
     ensures { result ≡ net_fault_code fault }
 {
     match fault {

@@ -7,6 +7,7 @@ mod checking;
 mod code;
 mod commands;
 mod freeing;
+mod gains;
 mod handle;
 mod losses;
 mod maximum_flow;

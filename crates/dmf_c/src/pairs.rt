@@ -60,7 +60,7 @@ fn copy_pair_losses(
 }
 
 /// Whether each of these is the number of an arc.
-fn are_arcs(state: &State, numbers: &[u32]) -> bool
+pub fn are_arcs(state: &State, numbers: &[u32]) -> bool
     ensures { result ≡ are_arcs state.now.network numbers.now }
 {
     for i in 0..numbers.len() {

@@ -1,33 +1,36 @@
 //! The arcs, nodes and pairs of arcs of the present network that cost most to lose.
-ghost use Rattle.std.specs.Prelude.{◌≡◌, ◌≢◌, ◌≤◌, length};
-ghost use Rattle.dmf_vital.specs.Worst.{IsArcLoss, IsNodeLoss};
+ghost use Rattle.std.specs.Prelude.{◌≡◌, ◌≢◌, ◌≤◌, ◌==◌, not, length, map, IfOk};
+ghost use Rattle.dmf_solver.specs.Greatest.{IsGreatest};
+ghost use Rattle.dmf_vital.specs.Worst.{AreWorst, IsArcLossAmong, IsNodeLoss, IsPairLossAmong};
 ghost use Rattle.dmf_c.specs.Codes.{OfPresent};
 ghost use Rattle.dmf_c.specs.Status.{DMF_OK};
 ghost use Rattle.dmf_c.specs.Arrays.{AnswersLosses};
-ghost use Rattle.dmf_c.specs.Worst.{AnswersWorstPairs, BeginsWith, HasWorst, HasWorstPairs};
+ghost use Rattle.dmf_c.specs.Worst.{AnswersWorstArcs, AnswersWorstPairs, BeginsWith, HasWorst, HasWorstPairs, chosen};
 
 use crate::checking::greatest;
 use crate::handle::Handle;
-use dmf_state::State;
-use dmf_vital::{NumberedLoss, worst_arcs, worst_nodes, worst_pairs};
-use std::alloc::Global;
+use crate::ranges::is_column;
+use dmf_state::{NoMemory, State};
+use dmf_vital::{NumberedLoss, worst_arcs_among, worst_nodes, worst_pairs_among};
+use std::alloc::{AllocError, Global};
 
-/// The arcs that cost most to lose.
+/// The arcs that cost most to lose, of those that are marked.
 #[unsafe(no_mangle)]
 pub extern "C" fn dmf_session_worst_arcs(
     alloc: Global,
     session: &mut Handle,
+    among: &[u8],
     arcs: &mut [u32],
     losses: &mut [u64],
     found: &mut usize,
 ) -> u32
-    ensures answer { OfPresent session.old.timeline (λ s. AnswersLosses s (length arcs.old) (length losses.old) result) }
-    ensures filled { OfPresent session.old.timeline (λ s. result ≡ DMF_OK → HasWorst (IsArcLoss s.network) arcs.old arcs.new losses.old losses.new found.new) }
+    ensures answer { OfPresent session.old.timeline (λ s. AnswersWorstArcs s (length among.now) (length arcs.old) (length losses.old) result) }
+    ensures filled { OfPresent session.old.timeline (λ s. result ≡ DMF_OK → HasWorst (IsArcLossAmong s.network (chosen s.network among.now)) arcs.old arcs.new losses.old losses.new found.new) }
     ensures refused { result ≢ DMF_OK → (arcs.new ≡ arcs.old) × (losses.new ≡ losses.old) × (found.new ≡ found.old) }
     ensures unchanged { session.new.timeline ≡ session.old.timeline }
 {
     let present = session.plan().present();
-    put_worst_arcs(alloc, present, arcs, losses, found)
+    put_worst_arcs(alloc, present, among, arcs, losses, found)
 }
 
 /// The nodes that cost most to lose.
@@ -48,44 +51,46 @@ pub extern "C" fn dmf_session_worst_nodes(
     put_worst_nodes(alloc, present, nodes, losses, found)
 }
 
-/// The pairs of arcs that cost most to lose together.
+/// The pairs of arcs that cost most to lose together, of those that are marked.
 #[unsafe(no_mangle)]
 pub extern "C" fn dmf_session_worst_pairs(
     alloc: Global,
     session: &mut Handle,
+    among: &[u8],
     firsts: &mut [u32],
     seconds: &mut [u32],
     losses: &mut [u64],
     found: &mut usize,
 ) -> u32
-    ensures answer { OfPresent session.old.timeline (λ s. AnswersWorstPairs s (length firsts.old) (length seconds.old) (length losses.old) result) }
-    ensures filled { OfPresent session.old.timeline (λ s. result ≡ DMF_OK → HasWorstPairs s.network firsts.old firsts.new seconds.old seconds.new losses.old losses.new found.new) }
+    ensures answer { OfPresent session.old.timeline (λ s. AnswersWorstPairs s (length among.now) (length firsts.old) (length seconds.old) (length losses.old) result) }
+    ensures filled { OfPresent session.old.timeline (λ s. result ≡ DMF_OK → HasWorstPairs (IsPairLossAmong s.network (chosen s.network among.now)) firsts.old firsts.new seconds.old seconds.new losses.old losses.new found.new) }
     ensures refused { result ≢ DMF_OK → (firsts.new ≡ firsts.old) × (seconds.new ≡ seconds.old) × (losses.new ≡ losses.old) × (found.new ≡ found.old) }
     ensures unchanged { session.new.timeline ≡ session.old.timeline }
 {
     let present = session.plan().present();
-    put_worst_pairs(alloc, present, firsts, seconds, losses, found)
+    put_worst_pairs(alloc, present, among, firsts, seconds, losses, found)
 }
 
 fn put_worst_arcs(
     alloc: Global,
     state: &State,
+    among: &[u8],
     arcs: &mut [u32],
     losses: &mut [u64],
     found: &mut usize,
 ) -> u32
-    ensures answer { AnswersLosses state.now (length arcs.old) (length losses.old) result }
-    ensures filled { result ≡ DMF_OK → HasWorst (IsArcLoss state.now.network) arcs.old arcs.new losses.old losses.new found.new }
+    ensures answer { AnswersWorstArcs state.now (length among.now) (length arcs.old) (length losses.old) result }
+    ensures filled { result ≡ DMF_OK → HasWorst (IsArcLossAmong state.now.network (chosen state.now.network among.now)) arcs.old arcs.new losses.old losses.new found.new }
     ensures refused { result ≢ DMF_OK → (arcs.new ≡ arcs.old) × (losses.new ≡ losses.old) × (found.new ≡ found.old) }
 {
-    if arcs.len() != losses.len() {
+    if !(arcs.len() == losses.len() && is_column(state.arcs().len(), among.len())) {
         return 10;
     }
     let code = greatest(alloc, state);
     if code != 0 {
         return code;
     }
-    match worst_arcs(alloc, state, losses.len()) {
+    match find_worst_arcs(alloc, state, among, losses.len()) {
         Ok(worst) => {
             put_numbers(&worst, arcs);
             put_losses(&worst, losses);
@@ -128,23 +133,27 @@ fn put_worst_nodes(
 fn put_worst_pairs(
     alloc: Global,
     state: &State,
+    among: &[u8],
     firsts: &mut [u32],
     seconds: &mut [u32],
     losses: &mut [u64],
     found: &mut usize,
 ) -> u32
-    ensures answer { AnswersWorstPairs state.now (length firsts.old) (length seconds.old) (length losses.old) result }
-    ensures filled { result ≡ DMF_OK → HasWorstPairs state.now.network firsts.old firsts.new seconds.old seconds.new losses.old losses.new found.new }
+    ensures answer { AnswersWorstPairs state.now (length among.now) (length firsts.old) (length seconds.old) (length losses.old) result }
+    ensures filled { result ≡ DMF_OK → HasWorstPairs (IsPairLossAmong state.now.network (chosen state.now.network among.now)) firsts.old firsts.new seconds.old seconds.new losses.old losses.new found.new }
     ensures refused { result ≢ DMF_OK → (firsts.new ≡ firsts.old) × (seconds.new ≡ seconds.old) × (losses.new ≡ losses.old) × (found.new ≡ found.old) }
 {
-    if !(firsts.len() == losses.len() && seconds.len() == losses.len()) {
+    if !(firsts.len() == losses.len()
+        && seconds.len() == losses.len()
+        && is_column(state.arcs().len(), among.len()))
+    {
         return 10;
     }
     let code = greatest(alloc, state);
     if code != 0 {
         return code;
     }
-    match worst_pairs(alloc, state, losses.len()) {
+    match find_worst_pairs(alloc, state, among, losses.len()) {
         Ok(worst) => {
             put_numbers(&worst, firsts);
             put_seconds(&worst, seconds);
@@ -154,6 +163,51 @@ fn put_worst_pairs(
         }
         Err(_) => 1,
     }
+}
+
+/// The worst of the chosen arcs.
+fn find_worst_arcs(
+    alloc: Global,
+    state: &State,
+    marks: &[u8],
+    most: usize,
+) -> Result<Vec<NumberedLoss>, NoMemory>
+    requires { IsGreatest state.now.network state.now.flows }
+    ensures { IfOk result (λ worst. AreWorst (IsArcLossAmong state.now.network (chosen state.now.network marks.now)) most worst.items) }
+{
+    let among = chosen(alloc, state, marks)?;
+    worst_arcs_among(alloc, state, &among, most)
+}
+
+/// The worst pairs of the chosen arcs.
+fn find_worst_pairs(
+    alloc: Global,
+    state: &State,
+    marks: &[u8],
+    most: usize,
+) -> Result<Vec<NumberedLoss>, NoMemory>
+    requires { IsGreatest state.now.network state.now.flows }
+    ensures { IfOk result (λ worst. AreWorst (IsPairLossAmong state.now.network (chosen state.now.network marks.now)) most worst.items) }
+{
+    let among = chosen(alloc, state, marks)?;
+    worst_pairs_among(alloc, state, &among, most)
+}
+
+/// For each arc, in order, whether it is chosen: by a mark other than 0, or since there are no marks.
+fn chosen(alloc: Global, state: &State, marks: &[u8]) -> Result<Vec<bool>, AllocError>
+    ensures { IfOk result (λ among. among.items ≡ chosen state.now.network marks.now) }
+{
+    if marks.is_empty() {
+        return vec![in alloc; true; state.arcs().len()];
+    }
+    marked(alloc, marks)
+}
+
+/// Which marks are not 0.
+fn marked(alloc: Global, marks: &[u8]) -> Result<Vec<bool>, AllocError>
+    ensures { IfOk result (λ among. among.items ≡ map (λ mark. not (mark == 0)) marks.now) }
+{
+    marks.iter().map(|mark| *mark != 0).collect(alloc)
 }
 
 fn put_numbers(worst: &[NumberedLoss], numbers: &mut [u32])

@@ -21,6 +21,11 @@ const INPUT: &str = "/proc/self/fd/0";
 /// A text of at most so many bytes is read again to explain its fault.
 const MOST_READ: u64 = 1_073_741_824;
 
+/// What is told where a network has no room for second arcs.
+const ROOM: &str = "Each gain is found with four more arcs like the arc. They fit where the network
+has at most 26843545 arcs, with capacities of at most 3689348814741910323 in
+all. Try single arcs in a session: add FROM TO CAP, then solve.";
+
 /// Where a text came from.
 #[derive(Clone, Copy)]
 pub enum Origin<'a> {
@@ -81,6 +86,11 @@ pub fn explain_open(rt: &HostRuntime, origin: Origin<'_>) {
     if let Err(error) = File::open(rt, path) {
         let _ = eprintln!(rt; "{shown}: {error}");
     }
+}
+
+/// Explains what second arcs need, and what can be done without them.
+pub fn explain_room(rt: &HostRuntime) {
+    let _ = eprintln!(rt; "{ROOM}");
 }
 
 /// Explains why a read failed, if what was read is a folder.

@@ -16,8 +16,8 @@ mod usage;
 
 pub use advice::way_on;
 pub use explain::{
-    Origin, explain_open, explain_problem, explain_read, explain_solution, explain_words, invite,
-    text_of,
+    Origin, explain_open, explain_problem, explain_read, explain_room, explain_solution,
+    explain_words, invite, text_of,
 };
 pub use fields::{FieldRange, Placed, count, field_at, first_fault};
 pub use front::Front;

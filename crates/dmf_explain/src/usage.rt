@@ -36,11 +36,13 @@ pub struct SolveFlags {
     cut: bool,
 }
 
-/// The options before a file whose parts are left out in turn. With `pairs` there is a number of the worst, and no `nodes`.
+/// The options before a file whose parts are left out in turn. With `pairs` there is a number of the worst, and no
+/// `nodes`; with `second` there is none of the three.
 #[derive(Clone, Copy)]
 pub struct VitalFlags<'a> {
     nodes: bool,
     pairs: bool,
+    second: bool,
     worst: Option<&'a str>,
 }
 
@@ -50,7 +52,8 @@ impl fmt::Display for VitalFlags<'_> {
         let pairs = if self.pairs { "--pairs " } else { "" };
         match self.worst {
             Some(worst) => write!(f, "{nodes}{pairs}--worst {worst} "),
-            None => write!(f, "{nodes}"),
+            None if self.second => f.write_str("--second "),
+            None => f.write_str(nodes),
         }
     }
 }
@@ -145,6 +148,7 @@ fn solve_of(words: &[String]) -> Option<Meant<'_>> {
 fn vital_of(words: &[String]) -> Option<Meant<'_>> {
     let mut nodes = false;
     let mut pairs = false;
+    let mut second = false;
     let mut worst: Option<&str> = None;
     let mut is_worst = false;
     let mut meant: Option<&str> = None;
@@ -157,18 +161,20 @@ fn vital_of(words: &[String]) -> Option<Meant<'_>> {
             }
             "--nodes" => nodes = true,
             "--pairs" => pairs = true,
+            "--second" => second = true,
             "--worst" => is_worst = true,
             file if meant.is_none() && is_file_name(file) => meant = Some(file),
             _ => return None,
         }
     }
-    if pairs && (nodes || worst.is_none()) {
+    if pairs && (nodes || worst.is_none()) || second && (nodes || pairs || worst.is_some()) {
         return None;
     }
     let file = meant?;
     let flags = VitalFlags {
         nodes,
         pairs,
+        second,
         worst,
     };
     Some(Meant::Vital { flags, file })

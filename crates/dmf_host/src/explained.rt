@@ -3,7 +3,8 @@ use crate::arguments::words;
 use crate::fault::Fault;
 use dmf_arguments::{MAX_HISTORY, MAX_WORST, Mode, read_words};
 use dmf_explain::{
-    Origin, explain_open, explain_problem, explain_read, explain_solution, explain_words,
+    Origin, explain_open, explain_problem, explain_read, explain_room, explain_solution,
+    explain_words,
 };
 use dmf_streams::EngineFault;
 use std::io::IsTerminal;
@@ -33,6 +34,7 @@ fn explain_run(rt: &HostRuntime, mode: &Mode, fault: &Fault) {
         }
         Fault::Run(EngineFault::Solution(fault)) => explain_solution(rt, origin, *fault),
         Fault::Run(EngineFault::Read) => explain_read(rt, origin),
+        Fault::Run(EngineFault::NoRoom) => explain_room(rt),
         _ => {}
     }
 }

@@ -5,7 +5,7 @@ use Rattle.std.specs.Str.{trim_end}
 use Rattle.dmf_arguments.specs.Words.{Task, solving, holding, checking, valuing, task_of, ReadsWords}
 use Rattle.dmf_arguments.specs.declared.words.Arguments.{Arguments}
 use Rattle.dmf_arguments.specs.declared.words.Parts.{Parts}
-use Rattle.dmf_arguments.specs.declared.words.Parts.TheVariants.{Arcs, Nodes, WorstArcs, WorstNodes, WorstPairs}
+use Rattle.dmf_arguments.specs.declared.words.Parts.TheVariants.{Arcs, Nodes, Seconds, WorstArcs, WorstNodes, WorstPairs}
 use Rattle.dmf_arguments.specs.declared.words.WordsFault.{WordsFault}
 use Rattle.dmf_arguments.specs.declared.words.WordsFault.TheVariants as words
 use Rattle.dmf_text.specs.Streams.{Reader, Writer}
@@ -18,7 +18,7 @@ use Rattle.dmf_streams.specs.declared.fault.EngineFault.TheVariants as engine
 use Rattle.dmf_solving.specs.SolveRun.{RunsSolve, RunsBrief, RunsAny}
 use Rattle.dmf_solving.specs.CheckRun.{RunsCheck}
 use Rattle.dmf_valuing.specs.Rows.{AreArcRows, AreNodeRows, AreWorstArcRows, AreWorstNodeRows, AreWorstPairRows}
-use Rattle.dmf_valuing.specs.VitalRun.{RunsVital}
+use Rattle.dmf_valuing.specs.VitalRun.{RunsSecond, RunsVital}
 use Rattle.dmf_runs.specs.Streams.{Streams}
 use Rattle.dmf_runs.specs.Session.{RunsSessionWith}
 use Rattle.dmf_host.specs.declared.fault.Fault.{Fault}
@@ -50,9 +50,10 @@ RunsSolving cut true any = RunsBrief cut
 RunsSolving cut false true = RunsAny cut
 RunsSolving cut false false = RunsSolve cut
 
--- A run that leaves out each of these parts in turn.
+-- A run that leaves out each of these parts in turn, or also puts second arcs beside them.
 abbrev pub RunsValuing : Parts → Reader → Reader → Writer → Writer → Result Status EngineFault → Type 0
 RunsValuing Arcs = RunsVital AreArcRows
+RunsValuing Seconds = RunsSecond
 RunsValuing Nodes = RunsVital AreNodeRows
 RunsValuing (WorstArcs most) = RunsVital (AreWorstArcRows most)
 RunsValuing (WorstNodes most) = RunsVital (AreWorstNodeRows most)

@@ -13,7 +13,8 @@ use dmf_solving::{run_check, run_solve_any, run_solve_brief, run_solve_watched};
 use dmf_streams::{EngineFault, Status};
 use dmf_text::{Sink, Source};
 use dmf_valuing::{
-    run_vital, run_vital_nodes, run_vital_worst, run_vital_worst_nodes, run_vital_worst_pairs,
+    run_vital, run_vital_nodes, run_vital_second, run_vital_worst, run_vital_worst_nodes,
+    run_vital_worst_pairs,
 };
 use std::alloc::Global;
 
@@ -98,9 +99,9 @@ pub fn run_solving<P: Source, W: Sink, V: Watch>(
     }
 }
 
-/// Writes the greatest value of a problem, and that without each of these parts.
+/// Writes the greatest value of a problem, and that without each of these parts, or also with second arcs.
 ///
-/// Fails as [`run_vital`] does.
+/// Fails as [`run_vital`] does, and with second arcs as [`run_vital_second`] does.
 #[inline(never)]
 fn run_valuing<P: Source, W: Sink, V: Watch>(
     alloc: Global,
@@ -113,6 +114,7 @@ fn run_valuing<P: Source, W: Sink, V: Watch>(
 {
     match parts {
         Parts::Arcs => run_vital(alloc, problem, out, watch),
+        Parts::Seconds => run_vital_second(alloc, problem, out, watch),
         Parts::Nodes => run_vital_nodes(alloc, problem, out, watch),
         Parts::WorstArcs(most) => run_vital_worst(alloc, most, problem, out, watch),
         Parts::WorstNodes(most) => run_vital_worst_nodes(alloc, most, problem, out, watch),

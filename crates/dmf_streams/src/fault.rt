@@ -33,6 +33,8 @@ pub enum EngineFault {
     NoMemory,
     /// A text or the list of commands exceeds its limit.
     TooMuchInput,
+    /// A network cannot take the second arcs by whose losses their gains are found.
+    NoRoom,
 }
 
 impl fmt::Display for EngineFault {
@@ -44,6 +46,7 @@ impl fmt::Display for EngineFault {
             EngineFault::Solution(fault) => fmt::Display::fmt(fault, f),
             EngineFault::NoMemory => f.write_str("no memory"),
             EngineFault::TooMuchInput => f.write_str("too much input"),
+            EngineFault::NoRoom => f.write_str("no room for second arcs"),
         }
     }
 }
@@ -88,6 +91,7 @@ pub fn status_of(outcome: &Result<Status, EngineFault>) -> u8
         Err(EngineFault::Read) => 4,
         Err(EngineFault::Write) => 4,
         Err(EngineFault::TooMuchInput) => 4,
+        Err(EngineFault::NoRoom) => 4,
         Err(EngineFault::NoMemory) => 5,
     }
 }

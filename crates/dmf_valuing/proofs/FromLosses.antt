@@ -1,5 +1,5 @@
 -- From losses to their rows.
-use Rattle.std.proofs.Common.{ℕ, ◌≡◌, ◌+◌, ◌-◌, ◌<◌, ◌≤◌, ◌==◌, List, [], ◌∷◌, ap, arith, false, get_or, length, map, pos, refl, subst, sym, ◌∙◌}
+use Rattle.std.proofs.Common.{ℕ, ◌≡◌, ◌≢◌, ◌+◌, ◌-◌, ◌<◌, ◌≤◌, ◌==◌, List, [], ◌∷◌, ap, arith, false, get_or, length, map, pos, refl, subst, sym, ◌∙◌}
 use Rattle.std.proofs.lemmas.Bool.{ne_eqb}
 use Rattle.std.proofs.lemmas.Int.{ints}
 use Rattle.std.proofs.lemmas.List.{get_or-map, length-map}
@@ -18,12 +18,20 @@ use Rattle.dmf_vital.proofs.Values.{value-is_greatest}
 use Rattle.dmf_valuing.specs.PartRows.{AreLossesOf, AreLossesOfParts, ArePartRows, loss_row}
 use Rattle.dmf_valuing.specs.Rows.{IsArcRow, IsNodeRow, IsPairRow, Row, inner_nodes}
 use Rattle.dmf_valuing.specs.declared.parts.Parts.{Parts}
-use Rattle.dmf_valuing.specs.declared.parts.Parts.TheVariants.{Arcs, Nodes, WorstArcs, WorstNodes, WorstPairs}
+use Rattle.dmf_valuing.specs.declared.parts.Parts.TheVariants.{Arcs, Nodes, Seconds, WorstArcs, WorstNodes, WorstPairs}
 
 -- What is so of each element of a list relates it to what a function makes of it.
 zip-map : {X : Type 0} (P : X → Type 0) (R : X → Row → Type 0) (f : X → Row) → ((x : X) → P x → R x (f x)) → (xs : List X) → All P xs → AllZip R xs (map f xs)
 zip-map P R f make [] all = tt
 zip-map P R f make (x ∷ xs) all = (make x (All-head P x xs all), zip-map P R f make xs (All-tail P x xs all))
+
+-- The losses are as many as their numbers, and the one at an index has the number there.
+module _ (IsSuch : NumberedLoss → Type 0) (numbers : List ℕ) (losses : List NumberedLoss) (are : AreLossesOf IsSuch numbers losses) where
+  pub long : length losses ≡ length numbers
+  long = sym (length-map losses (λ (one : NumberedLoss). one.number)) ∙ ap length are.numbers_are
+
+  pub number-at : (k : ℕ) (none : NumberedLoss) → k < length losses → (get_or losses k none).number ≡ get_or numbers k 0
+  number-at k none below = sym (get_or-map (λ (one : NumberedLoss). one.number) losses k none 0 below) ∙ ap (λ l. get_or l k 0) are.numbers_are
 
 -- A network with a greatest flow of this value.
 module _ (n : Network) (flows : List ℕ) (value : ℕ) (greatest : IsGreatest n flows) (value_is : pos value ≡ flow_value n flows) where
@@ -34,7 +42,7 @@ module _ (n : Network) (flows : List ℕ) (value : ℕ) (greatest : IsGreatest n
         let whole = value-is_greatest n flows is.before greatest is.greatest_before in
         omega (arith, ints, whole, value_is, is.difference)
 
-    left-is : IsGreatestValue m (value - loss)
+    pub left-is : IsGreatestValue m (value - loss)
     left-is =
         let after : is.after ≡ value - loss = omega (arith, left) in
         subst (IsGreatestValue m) after is.greatest_after
@@ -66,6 +74,7 @@ module _ (n : Network) (flows : List ℕ) (value : ℕ) (greatest : IsGreatest n
 
   pub losses-fit : (parts : Parts) (losses : List NumberedLoss) → AreLossesOfParts parts n losses → All (λ (one : NumberedLoss). one.loss ≤ value) losses
   losses-fit Arcs losses are k d below = arc-fits (get_or losses k d) (are.such k d below)
+  losses-fit Seconds losses are k d below = arc-fits (get_or losses k d) (are.such k d below)
   losses-fit Nodes losses are k d below = node-fits (get_or losses k d) (are.such k d below)
   losses-fit (WorstArcs most) losses are k d below = arc-fits (get_or losses k d) (are.losses k d below)
   losses-fit (WorstNodes most) losses are k d below = node-fits (get_or losses k d) (are.losses k d below)
@@ -74,25 +83,21 @@ module _ (n : Network) (flows : List ℕ) (value : ℕ) (greatest : IsGreatest n
   -- The row at an index is that of the number there.
   module _ (IsSuch : NumberedLoss → Type 0) (IsRowOf : ℕ → Row → Type 0) (make : (one : NumberedLoss) → IsSuch one → IsRowOf one.number (loss_row value one))
       (numbers : List ℕ) (losses : List NumberedLoss) (are : AreLossesOf IsSuch numbers losses) where
-    long : length losses ≡ length numbers
-    long = sym (length-map losses (λ (one : NumberedLoss). one.number)) ∙ ap length are.numbers_are
-
     all-long : length (map (loss_row value) losses) ≡ length numbers
-    all-long = length-map losses (loss_row value) ∙ long
+    all-long = length-map losses (loss_row value) ∙ long IsSuch numbers losses are
 
     row-at : (k : ℕ) → k < length numbers → IsRowOf (get_or numbers k 0) (get_or (map (loss_row value) losses) k [])
     row-at k inside =
         let none : NumberedLoss = record { number = 0; second = 0; loss = 0 } in
-        let below : k < length losses = omega (arith, inside, long) in
+        let below : k < length losses = omega (arith, inside, long IsSuch numbers losses are) in
         let one : NumberedLoss = get_or losses k none in
-        let number : one.number ≡ get_or numbers k 0 =
-        sym (get_or-map (λ (one : NumberedLoss). one.number) losses k none 0 below) ∙ ap (λ l. get_or l k 0) are.numbers_are in
+        let number : one.number ≡ get_or numbers k 0 = number-at IsSuch numbers losses are k none below in
         subst (λ (row : Row). IsRowOf (get_or numbers k 0) row) (sym (get_or-map (loss_row value) losses k none [] below))
         (subst (λ (j : ℕ). IsRowOf j (loss_row value one)) number (make one (are.such k none below)))
 
-  -- The rows are those of such parts.
-  pub rows-are : (parts : Parts) (losses : List NumberedLoss) → AreLossesOfParts parts n losses → ArePartRows parts n (map (loss_row value) losses)
-  rows-are Arcs losses are =
+  -- The rows are those of such parts, which have no more than what is left.
+  pub rows-are : (parts : Parts) (losses : List NumberedLoss) → parts ≢ Seconds → AreLossesOfParts parts n losses → ArePartRows parts n (map (loss_row value) losses)
+  rows-are Arcs losses other are =
       let numbers = range_with_len 1 (length n.arcs) in
       record {
         one_each = all-long (IsArcLoss n) (IsArcRow n) arc-row numbers losses are ∙ length-range_with_len 1 (length n.arcs);
@@ -101,21 +106,22 @@ module _ (n : Network) (flows : List ℕ) (value : ℕ) (greatest : IsGreatest n
             subst (λ (j : ℕ). IsArcRow n j (get_or (map (loss_row value) losses) k [])) number
             (row-at (IsArcLoss n) (IsArcRow n) arc-row numbers losses are k (omega (arith, inside, length-range_with_len 1 (length n.arcs))));
       }
-  rows-are Nodes losses are = record {
+  rows-are Seconds losses other are = absurd (other refl)
+  rows-are Nodes losses other are = record {
     one_each = all-long (IsNodeLoss n) (IsNodeRow n) node-row (inner_nodes n) losses are;
     in_order = row-at (IsNodeLoss n) (IsNodeRow n) node-row (inner_nodes n) losses are;
   }
-  rows-are (WorstArcs most) losses are = record {
+  rows-are (WorstArcs most) losses other are = record {
     worst = losses;
     are_worst = are;
     one_each = zip-map (IsArcLoss n) (λ (w : NumberedLoss) (row : Row). IsArcRow n w.number row) (loss_row value) arc-row losses are.losses;
   }
-  rows-are (WorstNodes most) losses are = record {
+  rows-are (WorstNodes most) losses other are = record {
     worst = losses;
     are_worst = are;
     one_each = zip-map (IsNodeLoss n) (λ (w : NumberedLoss) (row : Row). IsNodeRow n w.number row) (loss_row value) node-row losses are.losses;
   }
-  rows-are (WorstPairs most) losses are = record {
+  rows-are (WorstPairs most) losses other are = record {
     worst = losses;
     are_worst = are;
     one_each = zip-map (IsPairLoss n) (λ (w : NumberedLoss) (row : Row). IsPairRow n w.number w.second row) (loss_row value) pair-row losses are.losses;

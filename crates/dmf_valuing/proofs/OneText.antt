@@ -4,12 +4,12 @@ use Rattle.std.proofs.lemmas.List.{ext_get_or}
 use Rattle.std.specs.List.{AllZip}
 use Rattle.dmf_state.specs.Network.{Network}
 use Rattle.dmf_vital.specs.GreatestValue.{IsGreatestValue}
-use Rattle.dmf_vital.specs.Without.{without_arc, without_node, without_pair}
+use Rattle.dmf_vital.specs.Without.{with_second, without_arc, without_node, without_pair}
 use Rattle.dmf_vital.specs.declared.worst.NumberedLoss.{NumberedLoss}
 use Rattle.dmf_vital.proofs.Ranking.{worst-are_one}
 use Rattle.dmf_vital.proofs.Values.{one-value}
-use Rattle.dmf_valuing.specs.Laws.{ArcsHaveOneText, HaveOneText, NodesHaveOneText, WorstArcsHaveOneText, WorstNodesHaveOneText, WorstPairsHaveOneText}
-use Rattle.dmf_valuing.specs.Rows.{AreArcRows, AreNodeRows, AreRowsOfWorst, AreWorstArcRows, AreWorstNodeRows, AreWorstPairRows, IsArcRow, IsNodeRow, IsPairRow, Row, inner_nodes, vital_text}
+use Rattle.dmf_valuing.specs.Laws.{ArcsHaveOneText, HaveOneText, NodesHaveOneText, SecondsHaveOneText, WorstArcsHaveOneText, WorstNodesHaveOneText, WorstPairsHaveOneText}
+use Rattle.dmf_valuing.specs.Rows.{AreArcRows, AreNodeRows, AreRowsOfWorst, AreSecondRows, AreWorstArcRows, AreWorstNodeRows, AreWorstPairRows, IsArcRow, IsNodeRow, IsPairRow, IsSecondRow, Row, inner_nodes, vital_text}
 
 -- An arc or a node has one row, since the network without it has one greatest value,
 one-row : (m : Network) (j : ℕ) (row other : Row) → ((without : ℕ) × IsGreatestValue m without × (row ≡ j ∷ without ∷ []))
@@ -21,6 +21,17 @@ arc-rows : (n : Network) (rows others : List Row) → AreArcRows n rows → AreA
 arc-rows n rows others are also = ext_get_or [] rows others (are.one_each ∙ sym also.one_each) (λ k below.
     let inside : k < length n.arcs = omega (arith, below, are.one_each) in
     one-row (without_arc n (k + 1)) (k + 1) _ _ (are.in_order k inside) (also.in_order k inside))
+
+second-row : (n : Network) (j : ℕ) (row other : Row) → IsSecondRow n j row → IsSecondRow n j other → row ≡ other
+second-row n j row other is also =
+    let without = one-value (without_arc n j) is.0 also.0 is.2 also.2 in
+    let more = one-value (with_second n j) is.1 also.1 is.3 also.3 in
+    is.4 ∙ ap₂ (λ (without more : ℕ). j ∷ without ∷ more ∷ []) without more ∙ sym also.4
+
+second-rows : (n : Network) (rows others : List Row) → AreSecondRows n rows → AreSecondRows n others → rows ≡ others
+second-rows n rows others are also = ext_get_or [] rows others (are.one_each ∙ sym also.one_each) (λ k below.
+    let inside : k < length n.arcs = omega (arith, below, are.one_each) in
+    second-row n (k + 1) _ _ (are.in_order k inside) (also.in_order k inside))
 
 node-rows : (n : Network) (rows others : List Row) → AreNodeRows n rows → AreNodeRows n others → rows ≡ others
 node-rows n rows others are also = ext_get_or [] rows others (are.one_each ∙ sym also.one_each) (λ k below.
@@ -59,6 +70,9 @@ one-text AreRows one n value other rows others is also are likewise = ap₂ vita
 
 pub arcs-one-text : ArcsHaveOneText
 arcs-one-text = one-text AreArcRows arc-rows
+
+pub seconds-one-text : SecondsHaveOneText
+seconds-one-text = one-text AreSecondRows second-rows
 
 pub nodes-one-text : NodesHaveOneText
 nodes-one-text = one-text AreNodeRows node-rows

@@ -1,24 +1,23 @@
--- The lines of losses.
+-- The lines of rows.
 use Rattle.std.proofs.Common.{ℕ, Bool, true, ◌≡◌, List, [], ◌∷◌, ap, filter, get_or, map, refl}
 use Rattle.dmf_text.specs.Written.{written}
 use Rattle.dmf_text.proofs.WrittenLemmas.{kept-one, kept_text}
-use Rattle.dmf_vital.specs.declared.worst.NumberedLoss.{NumberedLoss}
-use Rattle.dmf_valuing.specs.PartRows.{loss_fields, loss_row}
+use Rattle.dmf_valuing.specs.PartRows.{fields_of, row_of}
 use Rattle.dmf_valuing.specs.Rows.{row_fields, row_line, rows_text}
+use Rattle.dmf_valuing.specs.declared.rows.Numbers.{Numbers}
 
 -- The lines are those of all elements of the list.
-module _ (value : ℕ) where
-  abbrev pub each : NumberedLoss → Bool
-  each one = true
+abbrev pub each : Numbers → Bool
+each row = true
 
-  all-losses : (losses : List NumberedLoss) → map row_fields (map (loss_row value) losses) ≡ map (loss_fields value) (filter each losses)
-  all-losses [] = refl
-  all-losses (one ∷ others) = ap (λ rest. loss_fields value one ∷ rest) (all-losses others)
+all-rows : (rows : List Numbers) → map row_fields (map row_of rows) ≡ map fields_of (filter each rows)
+all-rows [] = refl
+all-rows (row ∷ others) = ap (λ rest. fields_of row ∷ rest) (all-rows others)
 
-  pub losses-kept : (losses : List NumberedLoss) → rows_text (map (loss_row value) losses) ≡ kept_text each (loss_fields value) losses
-  losses-kept losses = ap written (all-losses losses)
+pub rows-kept : (rows : List Numbers) → rows_text (map row_of rows) ≡ kept_text each fields_of rows
+rows-kept rows = ap written (all-rows rows)
 
-  -- the line of one
-  pub loss-line : (losses : List NumberedLoss) (k : ℕ) (d : NumberedLoss) → kept_text each (loss_fields value) (get_or losses k d ∷ [])
-      ≡ row_line (loss_row value (get_or losses k d))
-  loss-line losses k d = kept-one each (loss_fields value) (get_or losses k d)
+-- the line of one
+pub row-line : (rows : List Numbers) (k : ℕ) (d : Numbers) → kept_text each fields_of (get_or rows k d ∷ [])
+    ≡ row_line (row_of (get_or rows k d))
+row-line rows k d = kept-one each fields_of (get_or rows k d)

@@ -3,7 +3,7 @@
 use Rattle.std.specs.Prelude.{ℕ, ◌≡◌, List}
 use Rattle.dmf_state.specs.Network.{Network}
 use Rattle.dmf_vital.specs.GreatestValue.{IsGreatestValue}
-use Rattle.dmf_valuing.specs.Rows.{AreArcRows, AreNodeRows, AreWorstArcRows, AreWorstNodeRows, AreWorstPairRows, Row, vital_text}
+use Rattle.dmf_valuing.specs.Rows.{AreArcRows, AreNodeRows, AreSecondRows, AreWorstArcRows, AreWorstNodeRows, AreWorstPairRows, Row, vital_text}
 
 -- A greatest value of a network and rows that are so have one text, whoever finds them.
 abbrev pub HaveOneText : (Network → List Row → Type 0) → Type 0
@@ -13,6 +13,10 @@ HaveOneText AreRows = (n : Network) (value other : ℕ) (rows others : List Row)
 -- rows of its arcs,
 abbrev pub ArcsHaveOneText : Type 0
 ArcsHaveOneText = HaveOneText AreArcRows
+
+-- rows of its arcs with second ones beside them,
+abbrev pub SecondsHaveOneText : Type 0
+SecondsHaveOneText = HaveOneText AreSecondRows
 
 -- rows of its nodes,
 abbrev pub NodesHaveOneText : Type 0

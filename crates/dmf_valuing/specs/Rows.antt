@@ -7,7 +7,7 @@ use Rattle.dmf_state.specs.Network.{Network}
 use Rattle.dmf_text.specs.Judging.{Line}
 use Rattle.dmf_text.specs.Written.{written, written_line}
 use Rattle.dmf_vital.specs.GreatestValue.{IsGreatestValue}
-use Rattle.dmf_vital.specs.Without.{without_arc, without_node, without_pair}
+use Rattle.dmf_vital.specs.Without.{with_second, without_arc, without_node, without_pair}
 use Rattle.dmf_vital.specs.Worst.{AreWorst, IsArcLoss, IsNodeLoss, IsPairLoss}
 use Rattle.dmf_vital.specs.declared.worst.NumberedLoss.{NumberedLoss}
 
@@ -24,6 +24,17 @@ IsArcRow n j row = (without : ℕ) × IsGreatestValue (without_arc n j) without 
 pub record AreArcRows (n : Network) (rows : List Row) : Type 0 where
   pub one_each : length rows ≡ length n.arcs
   pub in_order : (k : ℕ) → k < length n.arcs → IsArcRow n (k + 1) (slice_index_or rows k [])
+
+-- The row has the number of arc `j`, the value of a greatest flow of the network in which arc `j` is closed, and that of the network with a
+-- second arc beside arc `j`.
+abbrev pub IsSecondRow : Network → ℕ → Row → Type 0
+IsSecondRow n j row =
+    (without more : ℕ) × IsGreatestValue (without_arc n j) without × IsGreatestValue (with_second n j) more × (row ≡ j ∷ without ∷ more ∷ [])
+
+-- There is such a row of each arc, in order.
+pub record AreSecondRows (n : Network) (rows : List Row) : Type 0 where
+  pub one_each : length rows ≡ length n.arcs
+  pub in_order : (k : ℕ) → k < length n.arcs → IsSecondRow n (k + 1) (slice_index_or rows k [])
 
 -- The row has the number of node `v`, and the value of a greatest flow of the network in which each arc at node `v` is closed.
 abbrev pub IsNodeRow : Network → ℕ → Row → Type 0

@@ -1,8 +1,13 @@
-ghost use Rattle.dmf_valuing.specs.Laws.{ArcsHaveOneText, NodesHaveOneText, WorstArcsHaveOneText, WorstNodesHaveOneText, WorstPairsHaveOneText};
+ghost use Rattle.dmf_valuing.specs.Laws.{ArcsHaveOneText, NodesHaveOneText, SecondsHaveOneText, WorstArcsHaveOneText, WorstNodesHaveOneText, WorstPairsHaveOneText};
 
 /// The law that the problem determines what a run writes that values each arc.
 pub fn arcs_have_one_text()
     ensures { ArcsHaveOneText }
+{}
+
+/// The law that the problem determines what a run writes that values each arc, and a second one beside it.
+pub fn seconds_have_one_text()
+    ensures { SecondsHaveOneText }
 {}
 
 /// The law that the problem determines what a run writes that values each node.

@@ -2,13 +2,15 @@
 #![tactic(auto)]
 
 pub use laws::{
-    arcs_have_one_text, nodes_have_one_text, worst_arcs_have_one_text, worst_nodes_have_one_text,
-    worst_pairs_have_one_text,
+    arcs_have_one_text, nodes_have_one_text, seconds_have_one_text, worst_arcs_have_one_text,
+    worst_nodes_have_one_text, worst_pairs_have_one_text,
 };
 pub use vital::{
-    run_vital, run_vital_nodes, run_vital_worst, run_vital_worst_nodes, run_vital_worst_pairs,
+    run_vital, run_vital_nodes, run_vital_second, run_vital_worst, run_vital_worst_nodes,
+    run_vital_worst_pairs,
 };
 
+mod finding;
 mod laws;
 mod parts;
 mod rows;

@@ -16,13 +16,15 @@ use std::alloc::{AllocError, Global};
 pub enum Parts {
     /// All arcs.
     Arcs,
+    /// All arcs, each with a second one beside it.
+    Seconds,
     /// All nodes but the source and the sink.
     Nodes,
-    /// At most so many arcs, the worst first.
+    /// The given number of arcs, the worst first.
     WorstArcs(u32),
-    /// At most so many nodes, the worst first.
+    /// The given number of nodes, the worst first.
     WorstNodes(u32),
-    /// At most so many pairs of arcs, the worst first.
+    /// The given number of pairs of arcs, the worst first.
     WorstPairs(u32),
 }
 
@@ -37,6 +39,7 @@ pub fn find_losses(
 {
     match parts {
         Parts::Arcs => Ok(losses_of_arcs(alloc, state, &arc_losses(alloc, state)?)?),
+        Parts::Seconds => Ok(losses_of_arcs(alloc, state, &arc_losses(alloc, state)?)?),
         Parts::Nodes => Ok(losses_of_nodes(alloc, state, &node_losses(alloc, state)?)?),
         Parts::WorstArcs(most) => worst_arcs(alloc, state, most as usize),
         Parts::WorstNodes(most) => worst_nodes(alloc, state, most as usize),

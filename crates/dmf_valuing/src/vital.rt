@@ -1,14 +1,15 @@
 //! What is left without each arc, without each node or without each pair of arcs, from bytes to bytes.
-ghost use Rattle.dmf_valuing.specs.Laws.{ArcsHaveOneText, NodesHaveOneText, WorstArcsHaveOneText, WorstNodesHaveOneText, WorstPairsHaveOneText};
-ghost use Rattle.dmf_valuing.specs.PartRows.{ArePartRows};
+ghost use Rattle.dmf_valuing.specs.Laws.{ArcsHaveOneText, NodesHaveOneText, SecondsHaveOneText, WorstArcsHaveOneText, WorstNodesHaveOneText, WorstPairsHaveOneText};
+ghost use Rattle.dmf_valuing.specs.PartRows.{ArePartRows, PartsLackRoom};
 ghost use Rattle.dmf_valuing.specs.Rows.{AreArcRows, AreNodeRows, AreWorstArcRows, AreWorstNodeRows, AreWorstPairRows};
-ghost use Rattle.dmf_valuing.specs.VitalRun.{RunsVital};
+ghost use Rattle.dmf_valuing.specs.VitalRun.{RunsSecond, RunsVital, RunsVitalIn};
 
+use crate::finding::find_rows;
 use crate::laws::{
-    arcs_have_one_text, nodes_have_one_text, worst_arcs_have_one_text, worst_nodes_have_one_text,
-    worst_pairs_have_one_text,
+    arcs_have_one_text, nodes_have_one_text, seconds_have_one_text, worst_arcs_have_one_text,
+    worst_nodes_have_one_text, worst_pairs_have_one_text,
 };
-use crate::parts::{Parts, find_losses};
+use crate::parts::Parts;
 use crate::rows::write_vital;
 use dmf_solver::Watch;
 use dmf_solving::solve_any;
@@ -32,6 +33,24 @@ pub fn run_vital<P: Source, W: Sink, V: Watch>(
 {
     arcs_have_one_text();
     run_valuing(alloc, Parts::Arcs, problem, out, watch)
+}
+
+/// Does what [`run_vital`] does, with `v J WITHOUT WITH` for each arc. WITH is the value of a greatest flow of the network with a second arc
+/// beside arc number J.
+///
+/// Fails with [`EngineFault::NoRoom`], too, before it writes anything, if the network cannot take the second arcs: only if four more arcs of
+/// the capacity of each arc pass the limits of a network.
+pub fn run_vital_second<P: Source, W: Sink, V: Watch>(
+    alloc: Global,
+    problem: &mut P,
+    out: &mut W,
+    watch: &mut V,
+) -> Result<Status, EngineFault>
+    ensures run { RunsSecond (P.left problem.old) (P.left problem.new) (W.written out.old) (W.written out.new) result }
+    ensures one_text { SecondsHaveOneText }
+{
+    seconds_have_one_text();
+    run_valuing(alloc, Parts::Seconds, problem, out, watch)
 }
 
 /// Does what [`run_vital`] does, for each node but the source and the sink in place of each arc. WITHOUT is the value of a greatest flow of
@@ -97,7 +116,7 @@ pub fn run_vital_worst_pairs<P: Source, W: Sink, V: Watch>(
     run_valuing(alloc, Parts::WorstPairs(most), problem, out, watch)
 }
 
-/// Reads a problem, and writes its greatest value and what is left of it without each of these parts.
+/// Reads a problem, and writes its greatest value and the rows of these parts.
 #[inline(never)]
 fn run_valuing<P: Source, W: Sink, V: Watch>(
     alloc: Global,
@@ -106,12 +125,12 @@ fn run_valuing<P: Source, W: Sink, V: Watch>(
     out: &mut W,
     watch: &mut V,
 ) -> Result<Status, EngineFault>
-    ensures { RunsVital (ArePartRows parts) (P.left problem.old) (P.left problem.new) (W.written out.old) (W.written out.new) result }
+    ensures { RunsVitalIn (PartsLackRoom parts) (ArePartRows parts) (P.left problem.old) (P.left problem.new) (W.written out.old) (W.written out.new) result }
 {
     let state = read_state(alloc, problem)?;
     let solved = solve_any(alloc, state, false, watch)?;
-    let losses = find_losses(alloc, parts, &solved.state)?;
-    write_vital(solved.state.value(), &losses, out)?;
+    let rows = find_rows(alloc, parts, &solved.state)?;
+    write_vital(solved.state.value(), &rows, out)?;
     flush(out)?;
     Ok(Status::Well)
 }

@@ -19,6 +19,8 @@ pub mod Pushed
 pub mod Moved
 pub mod Stuck
 pub mod Lost
+pub mod NewArc
+pub mod Extending
 pub mod Second
 pub mod Ranking
 pub mod Entered

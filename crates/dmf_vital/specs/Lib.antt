@@ -13,3 +13,4 @@ pub mod Tree
 pub mod Shifted
 pub mod Entering
 pub mod Rest
+pub mod Extended

@@ -1,11 +1,13 @@
 -- What an arc or a node is worth: how much of the greatest value is lost without it. The most vital arc is one whose loss is greatest
 -- (Wollmer 1963).
 -- Public: a public contract says no more than this.
-use Rattle.std.specs.Prelude.{ℕ, ◌≡◌, ◌+◌, ◌≤◌, true}
+use Rattle.std.specs.Prelude.{ℕ, ◌≡◌, ◌+◌, ◌*◌, ◌^◌, ◌<◌, ◌≤◌, true, List, length, All}
+use Rattle.dmf_state.specs.declared.arc.Arc.{Arc}
+use Rattle.dmf_state.specs.Arc.{IsArc, capacity_sum}
 use Rattle.dmf_state.specs.Flow.{IsInnerNode}
-use Rattle.dmf_state.specs.Network.{Network, has_arc}
+use Rattle.dmf_state.specs.Network.{Network, arc_number, has_arc}
 use Rattle.dmf_vital.specs.GreatestValue.{IsGreatestValue}
-use Rattle.dmf_vital.specs.Without.{without_arc, without_node, without_pair, with_second}
+use Rattle.dmf_vital.specs.Without.{without_arc, without_node, without_pair, with_new_arc}
 
 -- The greatest value of network `m` is less than that of network `n` by this loss.
 pub record IsLoss (n m : Network) (loss : ℕ) : Type 0 where
@@ -33,9 +35,19 @@ pub record IsLossAt (n : Network) (v loss : ℕ) : Type 0 where
   pub source : v ≡ n.source → loss ≡ 0
   pub sink : v ≡ n.sink → loss ≡ 0
 
+-- The greatest value rises by this gain if the network gets one more arc, like this one.
+abbrev pub IsGainOfArc : Network → Arc → ℕ → Type 0
+IsGainOfArc n arc gain = IsLoss (with_new_arc n arc) n gain
+
 -- There is an arc number `j`, and a second arc beside it gains this.
 abbrev pub IsGainOfSecond : Network → ℕ → ℕ → Type 0
-IsGainOfSecond n j gain = (has_arc n j ≡ true) × IsLoss (with_second n j) n gain
+IsGainOfSecond n j gain = (has_arc n j ≡ true) × IsGainOfArc n (arc_number n j) gain
+
+-- These are arcs between nodes of the network, and it can take four more arcs of the capacity of each of them.
+pub record TakesFourOfEach (n : Network) (arcs : List Arc) : Type 0 where
+  pub ends : All (IsArc n.nodes) arcs
+  pub few : length n.arcs + 4 * length arcs ≤ 2 ^ 27
+  pub small : capacity_sum n.arcs + 4 * capacity_sum arcs < 2 ^ 64
 
 -- Arc number `j` is a most vital arc: without no other arc is more lost.
 pub record IsMostVital (n : Network) (j loss : ℕ) : Type 0 where

@@ -2,7 +2,7 @@
 -- Public: a public contract says no more than this.
 use Rattle.std.specs.Prelude.{ℕ, ◌==◌, ◌||◌, if◌then◌else◌, map}
 use Rattle.dmf_state.specs.declared.arc.Arc.{Arc}
-use Rattle.dmf_state.specs.Arc.{closed_arc}
+use Rattle.dmf_state.specs.Arc.{closed_arc, open_arc}
 use Rattle.dmf_state.specs.Network.{Network, arc_number, with_arc}
 use Rattle.dmf_state.specs.NetworkState.{with_last_arc}
 
@@ -22,6 +22,10 @@ without_pair n i j = without_arc (without_arc n i) j
 abbrev pub without_node : Network → ℕ → Network
 without_node n v = record { nodes = n.nodes; source = n.source; sink = n.sink; arcs = map (shut_arc v) n.arcs }
 
+-- the network with one more arc, the last: an open arc with the tail, the head and the capacity of this arc
+abbrev pub with_new_arc : Network → Arc → Network
+with_new_arc n arc = with_last_arc n (open_arc arc.tail arc.head arc.cap)
+
 -- the network with a second arc beside arc number `j`, from the same tail to the same head and of the same capacity
 abbrev pub with_second : Network → ℕ → Network
-with_second n j = with_last_arc n (arc_number n j)
+with_second n j = with_new_arc n (arc_number n j)

@@ -1,18 +1,20 @@
 //! What each arc and each place of a network is worth: how much of the greatest value is lost without it.
 #![tactic(auto)]
 
+pub use gain::{arc_gains, second_gains};
 pub use laws::{
     arc_has_loss, closing_leaves_out, greatest_value_is_one, held_flow_is_lost,
     idle_arc_loses_nothing, loss_is_flow, node_has_loss, node_loss_is_flow, pair_has_loss,
     second_has_gain, shutting_leaves_out, worst_is_most_vital,
 };
 pub use loss::{arc_losses, node_losses, value_without_arc, value_without_node};
-pub use pairs::{pair_losses, worst_pairs};
-pub use worst::{NumberedLoss, worst_arcs, worst_nodes};
+pub use pairs::{pair_losses, worst_pairs, worst_pairs_among};
+pub use worst::{NumberedLoss, worst_arcs, worst_arcs_among, worst_nodes};
 
 mod chains;
 mod cursor;
 mod exits;
+mod gain;
 mod guess;
 mod hop;
 mod laws;

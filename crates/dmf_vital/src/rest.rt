@@ -173,11 +173,19 @@ fn solved_without(alloc: Global, state: &State, flows: &[u64], i: u32) -> Result
         return Err(NoMemory);
     };
     close(alloc, &mut rest, i)?;
-    let Ok(edit) = plan_solve(alloc, &rest) else {
+    solve(alloc, &mut rest)?;
+    Ok(rest)
+}
+
+/// Solves, from the state's flow.
+pub fn solve(alloc: Global, state: &mut State) -> Result<(), NoMemory>
+    ensures network { OnOk result (state.new.network ≡ state.old.network) }
+    ensures greatest { OnOk result (IsGreatest state.new.network state.new.flows) }
+{
+    let Ok(edit) = plan_solve(alloc, state) else {
         return Err(NoMemory);
     };
-    rest.apply(&edit)?;
-    Ok(rest)
+    Ok(state.apply(&edit)?)
 }
 
 /// Closes arc number `i`, if it is open.

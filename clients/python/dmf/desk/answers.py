@@ -11,6 +11,7 @@ from dataclasses import dataclass, field
 from typing import TYPE_CHECKING, NamedTuple
 
 from ..errors import Error, FlowIsNotGreatest
+from ..losses import PairsWithout
 from ..session.base import Part, Program, Solved, ValuesWithout, problem_pieces
 from ..session.fresh import CUT, solved
 from ..session.runners import program_of
@@ -92,6 +93,8 @@ class Answers:
         The flow on each arc, and the net flow on each pipe.
     worth
         The greatest value without each arc, and without each node, once these were asked for.
+    pairs
+        The worst pairs of pipes, by how many were asked for.
     """
 
     inside: Sequence[int] | None = None
@@ -101,6 +104,7 @@ class Answers:
     flows: array[int] | None = None
     net: Sequence[int] | None = None
     worth: dict[Part, ValuesWithout] = field(default_factory=dict)
+    pairs: dict[int, PairsWithout] = field(default_factory=dict)
 
     @property
     def knows_worth(self) -> bool:

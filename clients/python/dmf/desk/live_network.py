@@ -5,12 +5,13 @@ from __future__ import annotations
 
 import contextlib
 from array import array
-from collections.abc import Iterable
+from collections.abc import Container, Iterable
 
 from ..arcs import Arc
 from ..errors import Error, Refused
+from ..losses import marks_of
 from ..quantity import Quantity, moved
-from ..session.base import Part, ProblemColumns, Program, ValuesWithout
+from ..session.base import Part, ProblemColumns, Program, Ranked, ValuesWithout, WorstWithout
 from ..tables.loader import LoadedProblem
 from ..tables.problem_networks import network_of_subject
 from .network_arcs import NetworkArcs
@@ -194,6 +195,12 @@ class LiveNetwork(NetworkArcs):
         """Return the greatest value without each arc or node: from the session if it runs in this
         process and its flow is greatest, else from the program."""
         return self.network._values_without(part)
+
+    def pairs_without(self, most: int, arcs: Container[int]) -> WorstWithout:
+        """Return the greatest value without each of the `most` worst pairs of these arcs, likewise.
+        They are given by their numbers."""
+        marks = marks_of(arcs, self.network._kept.arc_count)
+        return self.network._worst_without(Ranked.PAIRS, most, marks)
 
     def flows(self) -> array[int]:
         """Return the flow on each arc, in the whole numbers of the session: that on arc 1 first,

@@ -7,6 +7,8 @@ from collections.abc import Iterable
 from typing import NamedTuple
 
 from ..tables.roster_words import is_of_roster
+from ..text.table_comments import DEMAND, LIMIT, SUPPLY
+from .directory import ArcNames, Directory
 
 
 class PageWords(NamedTuple):
@@ -15,7 +17,11 @@ class PageWords(NamedTuple):
     lost; `short` is the title of what lacks something, and `met` says that nothing does; `source`
     and `sink` say what a place is, and `all_given`, `all_taken` and `all_through` what its limit in
     the bottleneck means; `most` is the title of what parts of the bottleneck carry, `flow`, `idle`
-    and `amount` are of a pipe that is selected, and `legend` explains its numbers."""
+    and `amount` are of a pipe that is selected, and `legend` explains its numbers; `enters` and
+    `leaves` are of a place, `rest` of what its list leaves out, and `shut`, `again`, `shutting`,
+    `is_shut`, `is_open` and `through` of shutting it and of its end; `added` is asked of a new
+    pipe, and `each` of all that are chosen, of which `flowing` says what they do; `flows` and
+    `fits` are titles of the table, and `forms` examples of its filter."""
 
     task: str
     picture: str
@@ -34,6 +40,21 @@ class PageWords(NamedTuple):
     idle: str
     amount: str
     legend: str
+    enters: str
+    leaves: str
+    rest: str
+    shut: str
+    again: str
+    shutting: str
+    is_shut: str
+    is_open: str
+    through: str
+    added: str
+    each: str
+    flowing: str
+    flows: str
+    fits: str
+    forms: str
 
 
 class Words(NamedTuple):
@@ -56,7 +77,18 @@ class Words(NamedTuple):
     worth: str
     shut: str
     places: str
+    shades: dict[str, str]
+    roles: dict[str, str]
     arc: str = ""
+
+    def arc_names(self, names: Directory, number: int) -> ArcNames:
+        """Return all that the pipe of an arc is called, with these words for what a place gives,
+        takes or lets through."""
+        given = names.arc_names(number)
+        if not given.role or not self.roles:
+            return given
+        told = self.roles[given.role.kind].format(place=names.node(given.role.node))
+        return given._replace(name=told, short=told, label=told)
 
 
 NETWORK = Words(
@@ -78,6 +110,21 @@ NETWORK = Words(
         idle="nothing flows",
         amount="What it can carry",
         legend="45/60: 45{unit} flow where 60 fit",
+        enters="Comes in",
+        leaves="Goes out",
+        rest="more carry less",
+        shut="Shut it",
+        again="Open it again",
+        shutting="Shutting it",
+        is_shut="shut",
+        is_open="open",
+        through="Passes through",
+        added="carries",
+        each="What each open {arc} can carry",
+        flowing="flow",
+        flows="flows",
+        fits="fits",
+        forms="lost > 10, fits < 60, flows > before, from ~ Mill",
     ),
     question="what can be sent from {source} to {sink}",
     size="{arcs} between {places} places",
@@ -94,6 +141,8 @@ NETWORK = Words(
     "shut",
     shut="place that is shut",
     places="places",
+    shades={},
+    roles={},
 )
 ROSTER = Words(
     page=PageWords(
@@ -114,6 +163,21 @@ ROSTER = Words(
         idle="not taken",
         amount="What it allows",
         legend="8/16: 8{unit} are staffed where 16 are allowed",
+        enters="Gets",
+        leaves="Gives",
+        rest="more have less",
+        shut="Leave it out",
+        again="Take it in again",
+        shutting="Leaving it out",
+        is_shut="left out",
+        is_open="taken in again",
+        through="Staffed",
+        added="allows",
+        each="What each open {arc} allows",
+        flowing="are staffed",
+        flows="staffed",
+        fits="allows",
+        forms="lost > 8, allows < 16, staffed > before, from ~ Ann",
     ),
     question="how {amount} can be staffed",
     size="{people} and {shifts}",
@@ -130,6 +194,21 @@ ROSTER = Words(
     "person, day or shift left out",
     shut="person, day or shift",
     places="people, days and shifts",
+    shades={
+        "no flow": "not taken",
+        "a wider one brings nothing": "more brings nothing",
+        "wider": "allows more",
+        "narrower": "allows less",
+        "carries more": "more staffed",
+        "carries less": "less staffed",
+        "not changed (the flows before are not known)": "not changed (what was staffed before is "
+        "not known)",
+    },
+    roles={
+        SUPPLY: "what {place} can work",
+        DEMAND: "what {place} needs",
+        LIMIT: "what {place} can take",
+    },
     arc="connection",
 )
 

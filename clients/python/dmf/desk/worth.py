@@ -1,18 +1,32 @@
-"""What each arc and each place is worth: what is left of the greatest value without it.
+"""What each arc, each place and each pair of arcs is worth: what is left of the greatest value
+without it.
 
-The session finds that for all arcs, or all nodes, from its greatest flow, and the desk asks it once
-for each state."""
+The session finds that for all arcs, for all nodes and for the worst pairs of arcs from its greatest
+flow, and the desk asks it once for each state."""
 
 from __future__ import annotations
 
-from collections.abc import Iterable, Sequence
+from bisect import bisect_left
+from collections.abc import Callable, Iterable, Mapping, Sequence
+from functools import partial
 from heapq import nsmallest
 from typing import NamedTuple
 
+from ..losses import PairsWithout, first_pairs
 from ..quantity import Quantity
-from ..session.base import Part, ValuesWithout
+from ..session.base import Part, ValuesWithout, WorstWithout
+from .network_arcs import NetworkArcs
 from .steps import DeskFault, Place
 from .workspace import Desk
+
+# How many pairs of arcs are listed at first. Many of them may have an arc that is not of a pipe,
+# such as that of a source, and a long list takes little longer than a short one.
+AT_FIRST = 1_000
+# How many pairs a page and a report list.
+MOST_PAIRS = 5
+# The most arcs of a network whose pairs they list: of 3,000 arcs they take half a second of
+# processor time, and of 10,000 some seconds.
+MOST_PAIRED = 3_000
 
 
 class Loss(NamedTuple):
@@ -20,6 +34,15 @@ class Loss(NamedTuple):
     pipe, or of the node of the place."""
 
     number: int
+    left: Quantity
+    loss: Quantity
+
+
+class PairLoss(NamedTuple):
+    """The greatest value without two pipes, and what is lost then. `numbers` are those of the
+    pipes, the smaller one first."""
+
+    numbers: tuple[int, int]
     left: Quantity
     loss: Quantity
 
@@ -110,6 +133,55 @@ def _worst(found: list[Loss], most: int) -> tuple[list[Loss], int]:
     costly = [it for it in found if it.loss]
     chosen = nsmallest(most, costly, key=lambda it: (it.left, it.number))
     return chosen, len(costly) - len(chosen)
+
+
+def worst_pairs(desk: Desk, most: int) -> list[PairLoss]:
+    """Return the `most` pairs of open pipes of the table that cost most to lose together, with what
+    each loses, the greatest loss first. Raise a `DeskFault` unless the flow is greatest, and
+    otherwise what a network's `vital_pairs` raises.
+
+    The greatest value is a concave function of the net flows on the two pipes. Closing both pipes
+    leaves only the point 0 of these two flows, and closing one arc of each leaves a closed
+    quadrant. The point 0 lies in the convex hull of any four points with one in each quadrant, so
+    the four quadrants cannot all have a greater value than 0 has: what is left without both pipes
+    is the least of the four. (With a pipe that leads one way, the same is true of two halves of a
+    line.) So a pair of pipes stands in the list of pairs of arcs first with what it loses, and
+    pairs with equal losses come in the order of that list.
+    """
+    judge_greatest(desk)
+    network, known = desk.network, desk.state.answers.pairs
+    if most not in known:
+        pipes = pipes_by_arc(network)
+        known[most] = pairs_of_pipes(partial(network.pairs_without, arcs=pipes), pipes, most)
+    value, pairs, without = known[most]
+    quantity = network.measure.quantity
+    return [
+        PairLoss(pair, quantity(left), quantity(value - left)) for pair, left in zip(pairs, without)
+    ]
+
+
+def pipes_by_arc(network: NetworkArcs) -> dict[int, int]:
+    """Return the arcs of the open pipes of the table, each with the number of its pipe."""
+    return {arc: pipe for pipe in network.opened_pipes() for arc in network.pipes.arcs(pipe)}
+
+
+def pairs_of_pipes(
+    find: Callable[[int], WorstWithout], pipes: Mapping[int, int], most: int
+) -> PairsWithout:
+    """Return the `most` worst pairs of these pipes, without those that cost nothing to lose, in the
+    whole numbers of the session. `find` returns the given number of worst pairs of their arcs."""
+
+    def costly(asked: int) -> WorstWithout:
+        found = find(asked)
+        count = bisect_left(found.without, found.value)
+        numbers = tuple(column[:count] for column in found.numbers)
+        return WorstWithout(found.value, numbers, found.without[:count])
+
+    def pair_of(*arcs: int) -> tuple[int, int] | None:
+        first, second = sorted(pipes.get(arc, 0) for arc in arcs)
+        return (first, second) if 0 < first < second else None
+
+    return first_pairs(costly, pair_of, most, AT_FIRST)
 
 
 def left_without_all(desk: Desk, numbers: Sequence[int]) -> Quantity:

@@ -56,6 +56,14 @@ class ProblemColumns(NamedTuple):
         return self.tails, self.heads, self.capacities
 
 
+class ArcColumns(NamedTuple):
+    """New arcs: the numbers of their tails and heads, and their capacities."""
+
+    tails: array[int]
+    heads: array[int]
+    capacities: array[int]
+
+
 class Part(Enum):
     """What is left out of a network in turn: each arc, or each node with all arcs at it."""
 
@@ -196,9 +204,17 @@ class Session:
         finds it: the session runs in the program, or its flow is not a maximum flow."""
         return None
 
-    def worst_without(self, ranked: Ranked, most: int) -> WorstWithout | None:
+    def worst_without(self, ranked: Ranked, most: int, among: bytes = b"") -> WorstWithout | None:
         """Return the greatest value without each of the `most` worst arcs, nodes or pairs, or
-        without all of them if there are fewer. Returns None as `values_without` does."""
+        without all of them if there are fewer. If `among` is not empty, it has a byte for each arc,
+        and arcs whose byte is 0 are left out, alone and in pairs. Returns None as `values_without`
+        does."""
+        return None
+
+    def gains(self, arcs: ArcColumns) -> array[int] | None:
+        """Return how much greater the greatest value is with each of these new arcs, or None if
+        only solves with each arc tell: the session runs in the program, its flow is not a maximum
+        flow, or the capacities are too large."""
         return None
 
     def problem(self) -> bytes:

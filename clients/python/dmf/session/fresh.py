@@ -5,9 +5,10 @@ from __future__ import annotations
 
 from array import array
 from collections.abc import Iterable, Sequence
+from heapq import nsmallest
 from typing import TYPE_CHECKING
 
-from ..errors import SessionEnded, UnknownCommand
+from ..errors import NumberTooLarge, SessionEnded, UnknownCommand
 from ..files import scratch
 from ..history import Command
 from ..text.lexical import AMOUNTS, NODES
@@ -94,12 +95,16 @@ def _numbers_of(problem: ProblemColumns, part: Part) -> list[int]:
 
 
 def worst_without(
-    problem: ProblemColumns, ranked: Ranked, most: int, program: FilePath
+    problem: ProblemColumns,
+    ranked: Ranked,
+    most: int,
+    program: FilePath,
+    begun: Begun | None = None,
 ) -> WorstWithout:
     """Return the program's answer to `vital --worst` about a problem; `most` is at most
     MOST_RANKED. Raises what `solved` raises."""
     words = [*WORST[ranked], str(most)]
-    lines = _answer(problem_pieces(problem), words, program, None).splitlines()
+    lines = _answer(problem_pieces(problem), words, program, begun).splitlines()
     arcs = len(problem.tails)
     try:
         (value,) = _numbers_after([b"c", b"value"], lines[0], 1)
@@ -113,6 +118,47 @@ def worst_without(
         raise _not_understood(words)
     numbers = (array(NODES, (row[at] for row in rows)) for at in range(ranked.column_count))
     return WorstWithout(value, tuple(numbers), without)
+
+
+def worst_among(
+    problem: ProblemColumns, ranked: Ranked, most: int, among: bytes, program: FilePath
+) -> WorstWithout:
+    """Return the same of arcs that have a byte other than 0 in `among`, and of pairs of them, or of
+    all if it is empty. The program ranks all arcs, so it is asked for more than are wanted. Raises
+    `NumberTooLarge` if it would have to rank more than MOST_RANKED pairs, and what `solved` raises.
+    """
+    hidden = among.count(0)
+    if ranked is Ranked.ARCS and most + hidden > MOST_RANKED:
+        value, without = values_without(problem, Part.ARC, program)
+        numbers = (number for number, mark in enumerate(among, 1) if mark)
+        worst = nsmallest(most, ((without[number - 1], number) for number in numbers))
+        return _chosen(value, [(number, left) for left, number in worst], 1)
+    asked = most + hidden if ranked is Ranked.ARCS else most
+    while True:
+        judge_count(ranked, asked)
+        found = worst_without(problem, ranked, asked, program)
+        rows = [
+            row
+            for row in zip(*found.numbers, found.without)
+            if not among or all(among[number - 1] for number in row[:-1])
+        ]
+        if len(rows) >= most or len(found.without) < asked:
+            return _chosen(found.value, rows[:most], ranked.column_count)
+        asked *= 4
+
+
+def judge_count(ranked: Ranked, count: int) -> None:
+    """Raise `NumberTooLarge` if this count is more than the program ranks."""
+    if count > MOST_RANKED:
+        raise NumberTooLarge(
+            f"{count} {ranked.value}: the program ranks {MOST_RANKED:,} at most; the library ranks "
+            "more after a solve"
+        )
+
+
+def _chosen(value: int, rows: Sequence[tuple[int, ...]], column_count: int) -> WorstWithout:
+    columns = (array(NODES, (row[at] for row in rows)) for at in range(column_count))
+    return WorstWithout(value, tuple(columns), array(AMOUNTS, (row[-1] for row in rows)))
 
 
 def _are_in_order(rows: list[list[int]], last: int) -> bool:

@@ -16,6 +16,7 @@ from ..errors import NoProgram, Refused
 from ..history import Command
 from ..text.lexical import AMOUNTS, NODES, display
 from .base import (
+    ArcColumns,
     Part,
     ProblemColumns,
     Ranked,
@@ -29,7 +30,17 @@ from .base import (
     refused,
     refused_line,
 )
-from .statuses import BAD_LENGTH, BAD_TEXT, FAULTS, NO_MEMORY, NOT_GREATEST, OK, REASONS
+from .statuses import (
+    BAD_LENGTH,
+    BAD_TEXT,
+    FAULTS,
+    NO_MEMORY,
+    NOT_GREATEST,
+    OK,
+    REASONS,
+    SUM_TOO_LARGE,
+    TOO_MANY_ARCS,
+)
 from .versions import ABI, fits, other_version
 from .worker_threads import Given, Handle, Job
 
@@ -78,10 +89,13 @@ class Library:
         self.worst = {
             ranked: self._call(
                 f"dmf_session_worst_{ranked.value}",
-                [_POINTER, *[_POINTER, _SIZE] * (1 + ranked.column_count), _POINTER],
+                [_POINTER, *[_POINTER, _SIZE] * _array_count(ranked), _POINTER],
             )
             for ranked in Ranked
         }
+        self.new_arc_gains = self._call(
+            "dmf_session_new_arc_gains", [_POINTER, *[_POINTER, _SIZE] * 4]
+        )
         self.problem = self._call("dmf_session_problem", [_POINTER, _POINTER, _SIZE, _POINTER])
 
     def _call(self, name: str, arguments: list[Any], result: Any = _WORD) -> Callable[..., int]:
@@ -116,6 +130,12 @@ class Library:
         if status != OK:
             raise refused_line(REASONS[NO_MEMORY], None)
         return LibrarySession(self, address.value or 0, self.arcs(address))
+
+
+def _array_count(ranked: Ranked) -> int:
+    """Return how many arrays the call that ranks these takes: numbers, losses and, for arcs, the
+    marks of those that are chosen."""
+    return ranked.column_count + (1 if ranked is Ranked.NODES else 2)
 
 
 @functools.cache
@@ -301,16 +321,23 @@ class LibrarySession(Session):
         value = self._library.value(held.address)
         return ValuesWithout(value, array(AMOUNTS, (value - loss for loss in losses)))
 
-    def worst_without(self, ranked: Ranked, most: int) -> WorstWithout | None:
+    def worst_without(self, ranked: Ranked, most: int, among: bytes = b"") -> WorstWithout | None:
         at_once = MOST_PAIRED_AT_ONCE if ranked is Ranked.PAIRS else MOST_LOST_AT_ONCE
-        return self._do(self._worst_without, ranked, most, most_at_once=at_once)
+        return self._do(self._worst_without, ranked, most, among, most_at_once=at_once)
 
-    def _worst_without(self, held: Handle, ranked: Ranked, most: int) -> WorstWithout | None:
+    def _worst_without(
+        self, held: Handle, ranked: Ranked, most: int, among: bytes
+    ) -> WorstWithout | None:
         address = held.address
-        most = min(most, ranked.count(self._library.nodes(address), self._library.arcs(address)))
+        arcs = len(among) - among.count(0) if among else self._library.arcs(address)
+        most = min(most, ranked.count(self._library.nodes(address), arcs))
         numbers = [array(NODES, [0]) * most for _ in range(ranked.column_count)]
         losses, found = array(AMOUNTS, [0]) * most, _SIZE()
-        columns = [part for column in (*numbers, losses) for part in (_place(column), most)]
+        columns: list[Any] = [
+            part for column in (*numbers, losses) for part in (_place(column), most)
+        ]
+        if ranked is not Ranked.NODES:
+            columns = [among, len(among), *columns]
         status = self._library.worst[ranked](address, *columns, ctypes.byref(found))
         if status == NOT_GREATEST:
             return None
@@ -320,6 +347,28 @@ class LibrarySession(Session):
         value = self._library.value(address)
         without = array(AMOUNTS, (value - loss for loss in losses))
         return WorstWithout(value, tuple(numbers), without)
+
+    def gains(self, arcs: ArcColumns) -> array[int] | None:
+        return self._do(self._gains, arcs, most_at_once=MOST_LOST_AT_ONCE)
+
+    def _gains(self, held: Handle, arcs: ArcColumns) -> array[int] | None:
+        """Return the gains of all these arcs at once, or of each half of them where the library can
+        take no more together."""
+        count = len(arcs.tails)
+        gains = array(AMOUNTS, [0]) * count
+        columns = [part for column in (*arcs, gains) for part in (_place(column), count)]
+        status = self._library.new_arc_gains(held.address, *columns)
+        if status == OK:
+            return gains
+        if status in (TOO_MANY_ARCS, SUM_TOO_LARGE) and count > 1:
+            halves = slice(count // 2), slice(count // 2, None)
+            first, second = (
+                self._gains(held, ArcColumns(*(it[half] for it in arcs))) for half in halves
+            )
+            return None if first is None or second is None else first + second
+        if status in (NOT_GREATEST, TOO_MANY_ARCS, SUM_TOO_LARGE):
+            return None
+        raise refused_line(REASONS[status], None)
 
     def problem(self) -> bytes:
         return self._do(self._problem)

@@ -3,14 +3,15 @@
 from __future__ import annotations
 
 OK, NO_MEMORY, NOT_GREATEST, BAD_LENGTH, BAD_TEXT = 0, 1, 9, 10, 12
+TOO_MANY_ARCS, SUM_TOO_LARGE = 5, 6
 # The reasons for a refusal in the program's words, by their numbers in dmf.h.
 REASONS = {
     NO_MEMORY: "no memory",
     2: "no such node",
     3: "no such arc",
     4: "arc is closed",
-    5: "too many arcs",
-    6: "capacities past 64 bits",
+    TOO_MANY_ARCS: "too many arcs",
+    SUM_TOO_LARGE: "capacities past 64 bits",
     7: "nothing to undo",
     8: "nothing to redo",
     NOT_GREATEST: "flow is not greatest",

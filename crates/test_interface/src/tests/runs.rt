@@ -36,6 +36,7 @@ fn fault_number(fault: EngineFault) -> u32 {
         EngineFault::Solution(_) => 4,
         EngineFault::NoMemory => 5,
         EngineFault::TooMuchInput => 6,
+        EngineFault::NoRoom => 7,
     }
 }
 

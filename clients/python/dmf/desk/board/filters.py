@@ -17,7 +17,13 @@ from .looks import Beginning
 
 AND, NOT, BEFORE = "and", "not", "before"
 # Other names of columns on the page, and of what dmf-plan calls the limit.
-_CALLED = {"flows": "flow", "fits": "capacity", "carries": "capacity"}
+_CALLED = {
+    "flows": "flow",
+    "staffed": "flow",
+    "fits": "capacity",
+    "carries": "capacity",
+    "allows": "capacity",
+}
 _CONDITIONS = {"bottleneck": "limit"}
 # The longest signs come first.
 _SIGN = re.compile(

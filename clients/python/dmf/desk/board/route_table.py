@@ -12,6 +12,7 @@ from .actions import ACTS, SCENARIO_ACTS
 from .place_views import end_view, place_view
 from .responses import Fields, Json, WrongForm, judge_arcs, judge_fields
 from .shown import Shown
+from .trials import trial_view
 from .views import arc_view, costs_view, many_view, scenarios_view
 
 # The most arcs in one request for second ones.
@@ -77,6 +78,7 @@ TWO: Fields = {"one": str, "two": str}
 PART: Fields = {"first": int, "count": int}
 ROWS: Fields = {"filter": str, "sort": str, **PART}
 COSTS: Fields = {"column": str, "to": str, "second": str}
+TRIAL: Fields = {"arc": int, "capacity": str, "back": str}
 ARCS: Fields = {"arcs": list, **TURN}
 MOVE: Fields = {"node": int, "right": int, "down": int, **FORM, **TURN}
 TIDY: Fields = {**NEAR, **FORM, **TURN}
@@ -100,13 +102,15 @@ READ = {
     "plan.csv": PageRoute(TURN, _part(Shown.table_file)),
     "problem.max": PageRoute(TURN, _part(Shown.problem_file)),
 }
-# What takes the session to other scenarios, and can be stopped.
+# What takes the session to other states, and can be stopped.
 STOPPABLE = {
+    "trial": PageRoute(TRIAL, _view(trial_view), can_stop=True),
     "costs": PageRoute(COSTS, _view(costs_view), can_stop=True),
     "comparison": PageRoute({**TWO, **PART}, _part(Shown.comparison), can_stop=True),
     "difference": PageRoute(TWO, _part(Shown.difference), can_stop=True),
     "difference.svg": PageRoute({**TWO, **TURN}, _part(Shown.difference_file), can_stop=True),
     "report.html": PageRoute(TURN, _part(Shown.report_file), can_stop=True),
+    "report.pdf": PageRoute(TURN, _part(Shown.report_pdf), can_stop=True),
 }
 # What is posted. Whatever state a page shows, it may ask about arcs.
 POSTED = {

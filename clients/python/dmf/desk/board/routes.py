@@ -233,7 +233,8 @@ class Board:
         return found
 
     def state(self) -> Json:
-        return state_view(self.desk, self.shown.words, self._offer)
+        state = state_view(self.desk, self.shown.words, self._offer)
+        return {**state, "can_print": self.shown.can_print}
 
     @contextlib.contextmanager
     def _stoppable(self) -> Iterator[None]:

@@ -5,6 +5,7 @@ from __future__ import annotations
 from collections.abc import Mapping
 
 from ..export import problem, table, taken
+from ..project.printed_report import browser, printed
 from ..project.report import report
 from ..steps import DeskFault
 from ..workspace import Desk
@@ -34,6 +35,8 @@ class Shown:
         raises."""
         self.desk = desk
         self.words = words_view(desk)
+        # Whether a browser is installed that prints the report.
+        self.can_print = bool(browser())
         self.placement = Placement(desk, spots, before)
         self.beginning = Beginning(desk)
         self.looks = Looks(desk, self.beginning)
@@ -70,6 +73,9 @@ class Shown:
 
     def report_file(self) -> Response:
         return Response(200, "text/html; charset=utf-8", report(self.desk).encode(), "report.html")
+
+    def report_pdf(self) -> Response:
+        return Response(200, "application/pdf", printed(report(self.desk)), "report.pdf")
 
     def _near(self, near: str) -> tuple[int, ...]:
         return self.desk.network.names.place_of(whole(near, "near")) if near else ()
@@ -151,9 +157,11 @@ class Shown:
         )
 
     def worth(self) -> Json:
-        """Return what each arc is worth, or whether it is being found. It is asked again then."""
+        """Return what each arc is worth, once that is known, and whether something is still being
+        found; the page asks again then."""
         is_finding = self.worth_finder.is_finding()
-        return {"is_finding": is_finding, **({} if is_finding else worth_view(self.desk))}
+        is_told = self.desk.state.answers.knows_worth or not is_finding
+        return {"is_finding": is_finding, **(worth_view(self.desk) if is_told else {})}
 
     def seconds(self, arcs: list[int], turn: int) -> Json:
         """Return what a second one brings beside each of the first arcs, and which are left."""

@@ -6,6 +6,7 @@ from __future__ import annotations
 import os
 from collections.abc import Sequence
 from decimal import Decimal
+from functools import partial
 
 from ...quantity import EXACT, Quantity, magnitude, moved, plain_text
 from ...session.base import Part, ValuesWithout
@@ -19,7 +20,7 @@ from ..project.scenarios import Scenarios
 from ..steps import Second
 from ..subject_words import words_of
 from ..workspace import Desk
-from ..worth import left_without, losses, worst, worst_places
+from ..worth import MOST_PAIRS, left_without, losses, worst, worst_pairs, worst_places
 from .responses import Json, whole
 
 
@@ -118,6 +119,7 @@ def words_view(desk: Desk) -> Json:
         "crosses": words.crosses,
         "crosses_one": words.crosses_one,
         "demand_titles": words.demand_titles,
+        "shades": words.shades,
     }
 
 
@@ -198,6 +200,8 @@ def arc_views(desk: Desk, numbers: Sequence[int]) -> list[Json]:
     something else, and its capacities there and back if both ways are open."""
     network, cut = desk.network, desk.cut_arcs()
     names_of, flows = network.names.arc_names, desk.flows_on(numbers)
+    if network.folding.has_roles:
+        names_of = partial(words_of(network.subject.notes).arc_names, network.names)
     found = []
     for number, pipe, flow in zip(numbers, network.pipes.of(numbers), flows):
         names = names_of(number)
@@ -259,11 +263,11 @@ NOT_KNOWN = {"without": "", "lost": ""}
 
 def worth_view(desk: Desk) -> Json:
     """Return the arcs and the places that are worst to lose, how many more of each cost something,
-    and the loss of each arc of the table by its number: of many, those of the worst. Nothing is
-    known if the search failed, or the network is too large."""
+    the worst pairs, and the loss of each arc of the table by its number: of many, those of the
+    worst. Nothing is known if the search failed, or the network is too large."""
     if not desk.state.answers.knows_worth:
         nothing: Json = {"worst": [], "more": 0}
-        return {"is_known": False, **nothing, "places": nothing, "losses": {}}
+        return {"is_known": False, **nothing, "places": nothing, "pairs": None, "losses": {}}
     (found, more), pictured = worst(desk, MOST_LOSSES), desk.network.pictured()
     told = losses(desk, pictured) if len(pictured) <= MOST_LOSSES else found
     return {
@@ -271,6 +275,7 @@ def worth_view(desk: Desk) -> Json:
         "worst": with_worth(desk, arc_views(desk, [it.number for it in found[:MOST_WORST]])),
         "more": more + max(0, len(found) - MOST_WORST),
         "places": _worst_places(desk),
+        "pairs": _worst_pairs(desk),
         "losses": {it.number: plain_text(it.loss) for it in told},
     }
 
@@ -288,6 +293,21 @@ def _worst_places(desk: Desk) -> Json:
         for it in found
     ]
     return {"worst": told, "more": more}
+
+
+def _worst_pairs(desk: Desk) -> list[Json] | None:
+    """Return the pairs of arcs that cost most to lose together, or None if they are not known: they
+    are still being found, the search failed, or the network is too large."""
+    if MOST_PAIRS not in desk.state.answers.pairs:
+        return None
+    return [
+        {
+            "arcs": arc_views(desk, it.numbers),
+            "without": plain_text(it.left),
+            "lost": plain_text(it.loss),
+        }
+        for it in worst_pairs(desk, MOST_PAIRS)
+    ]
 
 
 def costs_view(desk: Desk, column: str, to: str, second: str) -> Json:
@@ -331,10 +351,11 @@ def second_view(desk: Desk, second: Second) -> Json:
     sorts as texts do."""
     doubled = second.doubled
     won: Quantity = 0 if doubled is None else EXACT.subtract(doubled, desk.value)
+    network = desk.network
     return {
         "number": second.arc,
-        "short": desk.network.names.short(second.arc),
+        "short": words_of(network.subject.notes).arc_names(network.names, second.arc).short,
         "doubled": "" if doubled is None else plain_text(doubled),
         "won": plain_text(won) if won else "",
-        "gain": f"{desk.network.measure.whole(won):0{DIGITS}d}",
+        "gain": f"{network.measure.whole(won):0{DIGITS}d}",
     }

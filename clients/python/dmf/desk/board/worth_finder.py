@@ -1,36 +1,58 @@
-"""Find what each arc and each place is worth beside the requests of a page, so that none waits for
-it."""
+"""Find what each arc and each place is worth, and the worst pairs of arcs, beside the requests of a
+page, so that none waits for it."""
 
 from __future__ import annotations
 
 import contextlib
 import subprocess
 import threading
+from collections.abc import Callable, Mapping
 
-from ...errors import Error
-from ...session.base import PROGRAM, Part, ProblemColumns, Program, Runner, Session, ValuesWithout
-from ...session.fresh import values_without
+from ...errors import Error, NumberTooLarge
+from ...losses import marks_of
+from ...session.base import (
+    PROGRAM,
+    Part,
+    ProblemColumns,
+    Program,
+    Ranked,
+    Runner,
+    Session,
+    WorstWithout,
+)
+from ...session.fresh import values_without, worst_without
 from ...session.runners import chosen, program_of
 from ..answers import LARGE, Answers
 from ..workspace import Desk
+from ..worth import MOST_PAIRED, MOST_PAIRS, pairs_of_pipes, pipes_by_arc
 
 # The most arcs of a network that is solved once more by the library, which nothing can stop; a
 # larger one is left to the program. With 10,000 pipes that lead both ways it takes 0.1 s.
 MOST_IN_PROCESS = 25_000
 # How long a request waits for what may be found soon, in seconds.
 PATIENCE = 0.05
-
-Worth = dict[Part, ValuesWithout]
+# The most pairs of arcs that are listed to find the worst pairs of pipes.
+MOST_ASKED = 20_000
 
 
 class WorthRun:
-    """A search for the value without each arc and each node of one state, in a thread of its own.
-    Its results become part of that state's answers."""
+    """A search for the value without each arc and each node of one state, and then for the pairs of
+    pipes that cost most to lose together, in a thread of its own. Its results become part of that
+    state's answers."""
 
-    def __init__(self, answers: Answers, problem: ProblemColumns, program: Program) -> None:
+    def __init__(
+        self,
+        answers: Answers,
+        problem: ProblemColumns,
+        program: Program,
+        pipes: Mapping[int, int] | None,
+    ) -> None:
+        """Begin the search. `pipes` has the pipe of each arc, or is None if the network is too
+        large to find pairs."""
         self.answers = answers
         self._problem = problem
         self._program = program
+        self._pipes = pipes
         # What is running now.
         self._process: subprocess.Popen[bytes] | None = None
         self._session: Session | None = None
@@ -42,28 +64,53 @@ class WorthRun:
         # If this fails, nothing is known, and the page says so.
         with contextlib.suppress(Error, OSError):
             way = chosen(self._program)
-            is_small = len(self._problem.tails) <= MOST_IN_PROCESS
-            self.answers.worth = (
-                self._by_library(way)
-                if is_small and not isinstance(way, PROGRAM)
-                else self._by_program()
-            )
+            if len(self._problem.tails) <= MOST_IN_PROCESS and not isinstance(way, PROGRAM):
+                self._find_by_library(way)
+            else:
+                self._find_by_program()
 
-    def _by_library(self, library: Runner) -> Worth:
+    def _find_by_library(self, library: Runner) -> None:
         session = library.begin(self._problem, 0)
         self._session = session
+
+        marks = marks_of(self._pipes or {}, len(self._problem.tails))
+
+        def worst(most: int) -> WorstWithout:
+            found = session.worst_without(Ranked.PAIRS, most, marks)
+            if found is None:
+                raise session.ended()
+            return found
+
         try:
             if self._is_over:
                 raise session.ended()
             session.step(("solve",))
             found = {part: session.values_without(part) for part in Part}
+            self.answers.worth = {part: it for part, it in found.items() if it is not None}
+            self._find_pairs(worst)
         finally:
             session.end()
-        return {part: it for part, it in found.items() if it is not None}
 
-    def _by_program(self) -> Worth:
-        program = program_of(self._program)
-        return {part: values_without(self._problem, part, program, self._begun) for part in Part}
+    def _find_by_program(self) -> None:
+        program, problem = program_of(self._program), self._problem
+        self.answers.worth = {
+            part: values_without(problem, part, program, self._begun) for part in Part
+        }
+        self._find_pairs(
+            lambda most: worst_without(problem, Ranked.PAIRS, most, program, self._begun)
+        )
+
+    def _find_pairs(self, worst: Callable[[int], WorstWithout]) -> None:
+        """Find the worst pairs of pipes, unless the list of pairs of arcs would be too long."""
+        if self._pipes is None:
+            return
+
+        def find(most: int) -> WorstWithout:
+            if most > MOST_ASKED:
+                raise NumberTooLarge(f"{most} pairs are too many to list beside a page")
+            return worst(most)
+
+        self.answers.pairs[MOST_PAIRS] = pairs_of_pipes(find, self._pipes, MOST_PAIRS)
 
     def _begun(self, process: subprocess.Popen[bytes]) -> None:
         self._process = process
@@ -86,23 +133,26 @@ class WorthRun:
 
 
 class WorthFinder:
-    """A finder of the value without each arc and each node, in the present state of a desk. A run
-    for an earlier state is ended. Calls are made one after another."""
+    """A finder of the value without each arc and each node, and of the worst pairs, in the present
+    state of a desk. A run for an earlier state is ended. Calls are made one after another."""
 
     def __init__(self, desk: Desk) -> None:
         self._desk = desk
         self._run: WorthRun | None = None
 
     def is_finding(self) -> bool:
-        """Return True if it is being found, after beginning to find it; False if it is known, or
-        not found: the search failed, or the network is too large to do so after each change."""
-        network = self._desk.network
-        answers = self._desk.state.answers
-        if answers.knows_worth or len(network.lines) >= LARGE:
+        """Begin to find what is not known, and return True while something is being found. Return
+        False if all is known, the search failed, or the network is too large to search after each
+        change."""
+        network, answers = self._desk.network, self._desk.state.answers
+        arcs = len(network.lines)
+        is_known = answers.knows_worth and (MOST_PAIRS in answers.pairs or arcs > MOST_PAIRED)
+        if is_known or arcs >= LARGE:
             return False
         if self._run is None or self._run.answers is not answers:
             self.end()
-            self._run = WorthRun(answers, network.problem(), network.program)
+            pipes = pipes_by_arc(network) if arcs <= MOST_PAIRED else None
+            self._run = WorthRun(answers, network.problem(), network.program, pipes)
         return not self._run.is_over_within(PATIENCE)
 
     def end(self) -> None:

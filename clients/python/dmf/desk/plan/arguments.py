@@ -15,9 +15,9 @@ from ..expressions import Condition, amount, capacities, condition, is_amount
 from ..steps import Close, DeskFault, MakePlace, Place, Shut, UnknownPlace
 from ..workspace import Desk
 from .context import Confirm
-from .grammar import COMMANDS, NEW, is_number, one_name
+from .grammar import AND, COMMANDS, NEW, is_number, one_name
 
-WHERE, AND, BACK, THE_PLACE = "where", "and", "back", "place"
+WHERE, BACK, THE_PLACE = "where", "back", "place"
 HINT = f"`{NEW}` before its name makes a new place"
 CONDITIONS = (
     "name ~ TEXT, from ~ TEXT, to ~ TEXT, capacity < NUMBER, flow >= NUMBER, full, limit; with "
@@ -247,6 +247,42 @@ def place_named(desk: Desk, words: list[str]) -> Place | None:
         if nearest(name, names.places) and not nearest(name, names.spoken()):
             raise
         return None
+
+
+def two_arcs_named(desk: Desk, words: list[str]) -> tuple[int, int] | None:
+    """Return the two open pipes that the words of `worth` name with an `and` between them, or None
+    if they are one name. Raise a `DeskFault` if they can be several things, or mean no two pipes.
+    """
+    network = desk.network
+    splits = [
+        (" ".join(words[:at]), " ".join(words[at + 1 :]))
+        for at, word in enumerate(words)
+        if word == AND and 0 < at < len(words) - 1
+    ]
+    if not splits:
+        return None
+    named = [it for it in splits if all(map(network.names.arcs_or_none, it))]
+    is_one_name = _is_one_name(desk, words)
+    if len(named) + is_one_name > 1:
+        raise DeskFault(
+            f"this can mean several things; put a name with `{AND}` in quotes, or choose arcs by "
+            "their numbers"
+        )
+    if is_one_name:
+        return None
+    # Else the fault of a name that no arc has.
+    first, second = map(network.the_arc, (named or splits)[0])
+    if first == second:
+        raise DeskFault(f"both names mean {network.names.list([first])}")
+    return first, second
+
+
+def _is_one_name(desk: Desk, words: list[str]) -> bool:
+    """Return True if the words of `worth` are the name of one arc or place."""
+    names = desk.network.names
+    ways = [words, words[1:]] if words[0] == THE_PLACE else [words]
+    texts = [" ".join(it) for it in ways]
+    return bool(names.arcs_or_none(texts[0])) or any(map(names.has_place, texts))
 
 
 def arcs_to_try(desk: Desk, words: list[str]) -> list[int]:

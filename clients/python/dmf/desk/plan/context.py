@@ -10,7 +10,7 @@ from ..project.comparison import Comparison
 from ..project.scenarios import Scenarios
 from ..steps import Trial
 from ..workspace import Desk
-from ..worth import Loss
+from ..worth import Loss, PairLoss
 from .written_files import WrittenFiles
 
 # A function that asks a person a question, and returns True if the answer is yes.
@@ -66,13 +66,19 @@ class Output:
         """Write what is lost without each of the worst places, and how many more cost something."""
         raise NotImplementedError
 
+    def worst_pairs(self, desk: Desk, losses: list[PairLoss]) -> None:
+        """Write what is lost without the two arcs of each of the worst pairs."""
+        raise NotImplementedError
+
     def worth_of_place(self, desk: Desk, loss: Loss) -> None:
         """Write what is lost without a place."""
         raise NotImplementedError
 
-    def worth(self, desk: Desk, losses: list[Loss], together: Quantity) -> None:
-        """Write what is lost without each of the arcs of a name, and the value that is left without
-        all of them."""
+    def worth(
+        self, desk: Desk, losses: list[Loss], together: Quantity, *, is_one_name: bool = True
+    ) -> None:
+        """Write what is lost without each of some arcs, and the value that is left without all of
+        them. They have one name, or each was named."""
         raise NotImplementedError
 
     def what_if(self, desk: Desk, before: Quantity, value: Quantity) -> None:

@@ -24,8 +24,10 @@ FLOW, PLACE, ARC, CLOSED, COMMAND, EACH, SCENARIO, LOSS, WORST = (
     "loss",
     "worst",
 )
-# The word of `worst` for places.
-PLACES = "places"
+# The words of `worst` for places, and for pairs of arcs.
+PLACES, PAIRS = "places", "pairs"
+# The word between two arcs, and between conditions.
+AND = "and"
 
 
 class Help(NamedTuple):
@@ -119,17 +121,18 @@ COMMANDS = {
         "cost ..",
     ),
     "worst": Help(
-        "worst [places] [NUMBER]",
+        "worst [places | pairs] [NUMBER]",
         "Lists the NUMBER arcs (10 by default) whose loss lowers the value most, each with the "
         "value that is left without it; with `places` the places, except one that is the only "
-        "source or sink. Nothing changes.",
+        "source or sink. With `pairs` it lists the pairs of open arcs whose loss together lowers "
+        "the value most. Nothing changes.",
         WORST,
     ),
     "worth": Help(
-        "worth ARC|PLACE",
-        "Shows the value that is left without an arc, or without a place and each arc at it. If "
-        "several arcs have the name, it shows what is left without each, and without all of them. "
-        "`worth place NAME` is about a place. Nothing changes.",
+        "worth ARC [and ARC] | PLACE",
+        "Shows the value that is left without an arc, or without a place and each arc at it. Of "
+        "two arcs, or of several that have one name, it shows what is left without each, and "
+        "without all of them. `worth place NAME` is about a place. Nothing changes.",
         LOSS,
     ),
     "draw": Help(
@@ -158,7 +161,7 @@ COMMANDS = {
     "report": Help(
         "report FILE",
         "Writes a report as a page whose name ends with .html: values, limits, steps, pictures, "
-        "and the arcs and places whose loss lowers the value most.",
+        "and the arcs, places and pairs of arcs whose loss lowers the value most.",
     ),
     "notes": Help(
         "notes [TEXT]",
@@ -311,7 +314,9 @@ def _candidates(desk: Desk, before: list[str]) -> Iterator[str]:
     elif takes == PLACE and len(before) == 1:
         yield from names.places
     elif takes == WORST and len(before) == 1:
-        yield PLACES
+        yield from (PLACES, PAIRS)
+    elif takes == LOSS and len(before) > 1 and before[-1] == AND:
+        yield from (names.called(number) for number, _ in network.opened())
     elif takes in (ARC, FLOW, LOSS) and len(before) == 1:
         yield from (
             names.called(n)

@@ -12,7 +12,15 @@ from ..analysis import trials_of
 from ..export import DRAWN, drawn, problem, table, taken
 from ..expressions import capacities
 from ..steps import DeskFault, Trial
-from ..worth import judge_greatest, left_without_all, losses, losses_of_places, worst, worst_places
+from ..worth import (
+    judge_greatest,
+    left_without_all,
+    losses,
+    losses_of_places,
+    worst,
+    worst_pairs,
+    worst_places,
+)
 from .arguments import (
     WHERE,
     arcs_from,
@@ -27,15 +35,16 @@ from .arguments import (
     last_closed,
     new_arc,
     place_named,
+    two_arcs_named,
 )
 from .context import Context
-from .grammar import CHANGES, COMMANDS, PLACES, count_of, no_words, one_name
+from .grammar import CHANGES, COMMANDS, PAIRS, PLACES, count_of, no_words, one_name
 from .output import TextOutput, costs_told
 from .project_handlers import PROJECT_HANDLERS
 
 # From this many arcs on, the progress of a sweep is shown.
 MANY = 20
-# The number of arcs or places that `worst` lists.
+# The number of arcs, places or pairs that `worst` lists.
 MOST_WORST = 10
 
 
@@ -165,17 +174,26 @@ def _places(context: Context, words: list[str]) -> None:
 
 
 def _worst(context: Context, words: list[str]) -> None:
-    desk, are_places = context.desk, words[:1] == [PLACES]
-    rest = words[are_places:]
-    most = count_of(rest, "worst", "places" if are_places else "arcs") if rest else MOST_WORST
-    if are_places:
+    desk = context.desk
+    what, *rest = words if words[:1] in ([PLACES], [PAIRS]) else ("arcs", *words)
+    most = count_of(rest, "worst", what) if rest else MOST_WORST
+    if what == PLACES:
         context.output.worst_places(desk, *worst_places(desk, most))
+    elif what == PAIRS:
+        if not most:
+            raise DeskFault("give a number of pairs of at least 1")
+        context.output.worst_pairs(desk, worst_pairs(desk, most))
     else:
         context.output.worst(desk, *worst(desk, most))
 
 
 def _worth(context: Context, words: list[str]) -> None:
     desk = context.desk
+    pair = two_arcs_named(desk, words)
+    if pair:
+        found = losses(desk, pair)
+        context.output.worth(desk, found, left_without_all(desk, pair), is_one_name=False)
+        return
     place = place_named(desk, words)
     if place:
         context.output.worth_of_place(desk, *losses_of_places(desk, [place.entry]))

@@ -11,7 +11,7 @@ from ..project.comparison import ArcState, Comparison, Standing
 from ..project.scenarios import Scenarios
 from ..steps import Trial
 from ..workspace import Desk
-from ..worth import Loss
+from ..worth import Loss, PairLoss
 from .context import Output
 from .output import place_lines
 
@@ -72,11 +72,18 @@ class JsonOutput(Output):
     def worst_places(self, desk: Desk, losses: list[Loss], more: int) -> None:
         self._write("worth", {**_state(desk), **_losses_of_places(desk, losses), "more": more})
 
+    def worst_pairs(self, desk: Desk, losses: list[PairLoss]) -> None:
+        told = [{"arcs": _arcs(desk, [*it.numbers]), **_loss(desk, it)} for it in losses]
+        # The others are not counted.
+        self._write("worth", {**_state(desk), "losses": told, "more": None, "together": None})
+
     def worth_of_place(self, desk: Desk, loss: Loss) -> None:
         said = {**_losses_of_places(desk, [loss]), "together": _number(desk, loss.left)}
         self._write("worth", {**_state(desk), **said})
 
-    def worth(self, desk: Desk, losses: list[Loss], together: Quantity) -> None:
+    def worth(
+        self, desk: Desk, losses: list[Loss], together: Quantity, *, is_one_name: bool = True
+    ) -> None:
         said = {**_losses(desk, losses), "together": _number(desk, together)}
         self._write("worth", {**_state(desk), **said})
 
@@ -136,7 +143,7 @@ def _losses_of_places(desk: Desk, losses: list[Loss]) -> Json:
     return {"losses": told, "more": 0, "together": None}
 
 
-def _loss(desk: Desk, loss: Loss) -> Json:
+def _loss(desk: Desk, loss: Loss | PairLoss) -> Json:
     return {"without": _number(desk, loss.left), "loss": _number(desk, loss.loss)}
 
 

@@ -3,7 +3,7 @@
 from __future__ import annotations
 
 from collections import defaultdict
-from collections.abc import Iterable, Iterator
+from collections.abc import Iterable, Iterator, Sequence
 
 from ...quantity import EXACT, Quantity, magnitude, moved, plain_text
 from ...text.lexical import display
@@ -16,7 +16,7 @@ from ..project.comparison import Comparison
 from ..project.scenarios import Scenarios
 from ..steps import Trial
 from ..workspace import Desk
-from ..worth import Loss
+from ..worth import Loss, PairLoss
 from .context import Output
 
 TO, SECONDS = "to", ["of", "seconds"]
@@ -50,17 +50,26 @@ class TextOutput(Output):
     def worst(self, desk: Desk, losses: list[Loss], more: int) -> None:
         names = desk.network.names
         named = [(it, f"#{it.number} {names.arc(it.number)}") for it in losses]
-        self.tell(*_worst_lines(desk, named, more, "arc"))
+        self.tell(*_worst_lines(desk, named, more, "no arc alone costs"))
 
     def worst_places(self, desk: Desk, losses: list[Loss], more: int) -> None:
         named = [(it, desk.network.names.node(it.number)) for it in losses]
-        self.tell(*_worst_lines(desk, named, more, "place"))
+        self.tell(*_worst_lines(desk, named, more, "no place alone costs"))
+
+    def worst_pairs(self, desk: Desk, losses: list[PairLoss]) -> None:
+        short = desk.network.names.short
+        named = [(it, " and ".join(f"#{one} {short(one)}" for one in it.numbers)) for it in losses]
+        self.tell(*_worst_lines(desk, named, 0, "no two arcs together cost"))
 
     def worth_of_place(self, desk: Desk, loss: Loss) -> None:
         label = desk.network.names.node(loss.number)
         self.tell(f"shutting {label}: {_left_of(desk, loss.left)}")
 
-    def worth(self, desk: Desk, losses: list[Loss], together: Quantity) -> None:
+    def worth(
+        self, desk: Desk, losses: list[Loss], together: Quantity, *, is_one_name: bool = True
+    ) -> None:
+        if is_one_name and len(losses) > 1:
+            self.tell(f"{len(losses)} arcs have this name")
         self.tell(*_worth_lines(desk, losses, together))
 
     def what_if(self, desk: Desk, before: Quantity, value: Quantity) -> None:
@@ -197,7 +206,9 @@ def _scenario_lines(project: Scenarios) -> list[str]:
     return lines
 
 
-def _worst_lines(desk: Desk, named: list[tuple[Loss, str]], more: int, what: str) -> Iterator[str]:
+def _worst_lines(
+    desk: Desk, named: Sequence[tuple[Loss | PairLoss, str]], more: int, none_costs: str
+) -> Iterator[str]:
     """Yield a table of what is worst to lose: the value without each, its loss, and its name."""
     rows = [
         [desk.network.measure.title("without"), "loss", ""],
@@ -210,16 +221,15 @@ def _worst_lines(desk: Desk, named: list[tuple[Loss, str]], more: int, what: str
     if more:
         yield f"  and {more} more"
     elif not named:
-        yield f"  no {what} alone costs anything to lose"
+        yield f"  {none_costs} anything to lose"
 
 
 def _worth_lines(desk: Desk, losses: list[Loss], together: Quantity) -> Iterator[str]:
-    """Yield what closing the arcs of a name leaves: of several, closing each, and all of them."""
+    """Yield what closing some arcs leaves: of several, closing each, and all of them."""
     names = desk.network.names
     if len(losses) == 1:
         yield f"closing {names.short(losses[0].number)}: {_left_of(desk, together)}"
         return
-    yield f"{len(losses)} arcs have this name"
     for it in losses:
         yield f"  closing #{it.number} {names.arc(it.number)}: {_left_of(desk, it.left)}"
     both = "both" if len(losses) == 2 else f"all {len(losses)}"

@@ -13,6 +13,7 @@ from collections.abc import Callable, Iterator
 from html import escape
 from pathlib import Path
 
+from ...errors import NumberTooLarge
 from ...quantity import EXACT, magnitude
 from ...session import executable
 from ...session.base import Program
@@ -25,7 +26,7 @@ from ..export import problem, taken
 from ..steps import DeskFault
 from ..subject_words import words_of
 from ..workspace import Desk
-from ..worth import Loss, worst, worst_places
+from ..worth import MOST_PAIRED, MOST_PAIRS, Loss, worst, worst_pairs, worst_places
 from .comparison import ArcDifference, compare
 from .records import ENDING, Scenario
 from .report_findings import Demand, Findings, Section, Tried, Worst, WorstLosses
@@ -75,6 +76,13 @@ def _demands(desk: Desk) -> Iterator[Demand]:
         yield Demand(desk.network.names.node(node), it.limit, it.flow)
 
 
+def _arc_name(desk: Desk) -> Callable[[int], str]:
+    """Return a function that names an arc in the words of a network or of a roster."""
+    network = desk.network
+    words = words_of(network.subject.notes)
+    return lambda number: words.arc_names(network.names, number).label
+
+
 def _section(
     desk: Desk,
     name: str,
@@ -85,7 +93,7 @@ def _section(
 ) -> Section:
     """Return what is to be said of what a desk shows, whose steps begin with this one: of a
     scenario, if it is one. Its picture is this high at most, in points."""
-    network, cut = desk.network, [*desk.cut_arcs()]
+    network, name_of, cut = desk.network, _arc_name(desk), [*desk.cut_arcs()]
     limit = zip(cut, desk.flows_on(cut))
     picture, why = "", ""
     try:
@@ -100,7 +108,7 @@ def _section(
         desk.value,
         tuple((step.text, step.value) for step in made),
         tuple(step.text for step in scenario.left_out) if scenario else (),
-        tuple((network.names.arc(number), magnitude(flow)) for number, flow in limit),
+        tuple((name_of(number), magnitude(flow)) for number, flow in limit),
         tuple(network.names.side(desk.side())),
         tuple(sorted(_demands(desk), key=lambda it: it.arrives - it.wanted)),
         differences,
@@ -125,7 +133,7 @@ def _sections(desk: Desk) -> Iterator[Section]:
 
 def _tried(desk: Desk) -> Tried:
     """Return what the arcs and places of the present state mean for its value."""
-    value, name, cut = desk.value, desk.network.names.arc, [*desk.cut_arcs()]
+    value, name, cut = desk.value, _arc_name(desk), [*desk.cut_arcs()]
     tried = cut[:MOST_TRIED]
     gains = [
         (name(it.arc), EXACT.subtract(it.doubled, value))
@@ -154,9 +162,24 @@ def _losses(desk: Desk) -> WorstLosses | None:
     return WorstLosses(
         named(*worst(desk, MOST_ARCS), network.names.arc),
         named(*worst_places(desk, MOST_PLACES), network.names.node),
+        _pairs(desk),
         len(network.opened_pipes()),
         len(network.inner_places()),
     )
+
+
+def _pairs(desk: Desk) -> Worst | None:
+    """Return the pairs of arcs that cost most to lose together, or None if the network is too large
+    or the list would be too long."""
+    network = desk.network
+    if len(network.lines) > MOST_PAIRED:
+        return None
+    try:
+        found = worst_pairs(desk, MOST_PAIRS)
+    except NumberTooLarge:
+        return None
+    short = network.names.short
+    return Worst(tuple((" and ".join(map(short, it.numbers)), it.loss) for it in found), 0)
 
 
 def _table_arcs(desk: Desk) -> int:

@@ -39,8 +39,9 @@ class Section:
 
 
 class Worst(NamedTuple):
-    """The arcs or the places whose loss costs most, by their names, with what each loses, the
-    greatest loss first; and how many others cost something."""
+    """The arcs, the places or the pairs whose loss costs most, by their names, with what each
+    loses, the greatest loss first; and how many others cost something, which is 0 for pairs, since
+    they are not counted."""
 
     losses: tuple[tuple[str, Quantity], ...]
     more: int
@@ -48,10 +49,12 @@ class Worst(NamedTuple):
 
 class WorstLosses(NamedTuple):
     """What is worst to lose of all arcs of the table, and of all places without the only source and
-    the only sink; and how many arcs and places these are."""
+    the only sink; and how many arcs and places these are. `worst_pairs` are the pairs of arcs that
+    cost most to lose together, or None if there are too many arcs."""
 
     worst_arcs: Worst
     worst_places: Worst
+    worst_pairs: Worst | None
     arcs: int
     places: int
 

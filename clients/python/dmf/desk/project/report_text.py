@@ -228,9 +228,12 @@ def _columns(found: Findings) -> Iterator[_Column]:
     """Yield the tables of what is worst to lose and best to have twice."""
     tried = found.tried
     if tried.losses:
-        arcs, places, *_ = tried.losses
+        arcs, places, pairs, *_ = tried.losses
         none = "Closed alone, none costs anything."
         yield _Column("closed", "loses", arcs, EXACT.subtract, none)
+        if pairs:
+            none = "Closed together, no two cost anything."
+            yield _Column("closed together", "lose", pairs, EXACT.subtract, none)
         none = "Shut alone, no place costs anything."
         yield _Column(found.words.shut, "loses", places, EXACT.subtract, none)
     none = "A second one beside any of them brings nothing."
@@ -249,6 +252,12 @@ def _reckoned(found: Findings) -> Iterator[str]:
         )
         if 1 in (found.sources, found.sinks):
             yield "The only source and the only sink are not among the places."
+        yield (
+            f"Of all pairs of open {noun}s, the table lists those that cost most to lose together."
+            if losses.worst_pairs
+            else f"There are too many {noun}s here to find the two that cost most to lose "
+            "together; <code>worst pairs</code> in <code>dmf plan</code> lists them."
+        )
     else:
         yield f"There are too many {noun}s here to find what the loss of each would cost."
     all_or_some = (
@@ -266,7 +275,7 @@ def _trial_lines(found: Findings) -> Iterator[str]:
     tried = found.tried
     yield f"<h2>Worst to lose, best to have twice: {_text(tried.scenario)}</h2>"
     yield f'<p class="faint">{" ".join(_reckoned(found))}</p>'
-    yield '<div class="beside">'
+    yield '<div class="columns">'
     for title, word, (rows, more), sign, none in _columns(found):
         if not rows:
             yield f"<p>{none}</p>"

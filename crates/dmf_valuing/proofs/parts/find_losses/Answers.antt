@@ -3,6 +3,9 @@ use Rattle.dmf_valuing.proofs.parts.find_losses.Goals as goal
 pub returns-in_ok-losses_of_arcs-in-Arcs : goal.returns-in_ok-losses_of_arcs-in-Arcs
 returns-in_ok-losses_of_arcs-in-Arcs c = rw c.in-Arcs.is c.in_ok-losses_of_arcs-in-Arcs.ensures
 
+pub returns-in_ok-losses_of_arcs-in-Seconds : goal.returns-in_ok-losses_of_arcs-in-Seconds
+returns-in_ok-losses_of_arcs-in-Seconds c = rw c.in-Seconds.is c.in_ok-losses_of_arcs-in-Seconds.ensures
+
 pub returns-in_ok-losses_of_nodes-in-Nodes : goal.returns-in_ok-losses_of_nodes-in-Nodes
 returns-in_ok-losses_of_nodes-in-Nodes c = rw c.in-Nodes.is c.in_ok-losses_of_nodes-in-Nodes.ensures
 

@@ -1,7 +1,7 @@
 use Rattle.std.proofs.Common.{◌≡◌, take}
 use Rattle.std.specs.Io.KnownBytes.{Appends}
 use Rattle.dmf_text.proofs.WrittenLemmas.{kept_text}
-use Rattle.dmf_valuing.specs.PartRows.{loss_fields}
+use Rattle.dmf_valuing.specs.PartRows.{fields_of}
 use Rattle.dmf_valuing.proofs.PartRows.{each}
 use Rattle.dmf_valuing.proofs.rows.write_rows.Given as goal
 
@@ -9,6 +9,6 @@ use Rattle.dmf_valuing.proofs.rows.write_rows.Given as goal
 abbrev pub invariant-loop-k : goal.invariant-loop-k
 invariant-loop-k g l = record {
   held : Appends (g.W.Sink.written l.initial.out).contents (g.W.Sink.written l.out).contents
-      (kept_text (each l.value) (loss_fields l.value) (take l.k l.losses));
+      (kept_text each fields_of (take l.k l.rows));
   mark : (g.W.Sink.written l.out).has_failed ≡ (g.W.Sink.written l.initial.out).has_failed;
 }

@@ -1,4 +1,6 @@
+use Rattle.dmf_valuing.specs.Rows.{AreWorstArcRows}
+use Rattle.dmf_valuing.proofs.Ending.{never-short}
 use Rattle.dmf_valuing.proofs.vital.run_vital_worst.Goals as goal
 
 pub returns-clause-run : goal.returns-clause-run
-returns-clause-run g c = c.run_valuing.ensures
+returns-clause-run g c = never-short (AreWorstArcRows c.args.most) _ _ _ _ _ c.run_valuing.ensures

@@ -8,7 +8,7 @@ import { pick } from "./choice.js";
 import { button, make, numberCell } from "./elements.js";
 import { amounts, chips, facts, inUnits, setting } from "./facts.js";
 import { isPart, showNear } from "./picture.js";
-import { act, caption, noun, present } from "./state.js";
+import { act, caption, noun, present, wording } from "./state.js";
 import { grouped, upper } from "./words.js";
 import { leftWithout } from "./worth.js";
 
@@ -25,8 +25,8 @@ function pipes(place, title, arcs, more) {
     if (arc.name) name.append(make("span", ` ${word} ${end}`, { class: "soft" }));
     return make("tr", [name, numberCell(amounts(arc))]);
   });
-  if (more) rows.push(make("tr", make("td", `${grouped(more)} more carry less.`, { class: "soft", colspan: "2" })));
-  const heads = [make("th", upper(noun()), { scope: "col" }), make("th", "flow", { scope: "col", class: "number" })];
+  if (more) rows.push(make("tr", make("td", `${grouped(more)} ${wording().rest}.`, { class: "soft", colspan: "2" })));
+  const heads = [make("th", upper(noun()), { scope: "col" }), make("th", wording().flow.toLowerCase(), { scope: "col", class: "number" })];
   return make("table", [make("caption", title), make("thead", make("tr", heads)), make("tbody", rows)]);
 }
 
@@ -39,19 +39,19 @@ function marks(place) {
   // What is in a bottleneck is used up: a place that gets all that it asks for lacks nothing.
   const full = place.roles.filter((role) => role.limit && !role.closed).map(({ kind }) => /** @type {[string, string]} */ (
     kind === "demand" ? [words.all_taken, ""] : [kind === "supply" ? words.all_given : words.all_through, "limit"]));
-  return chips([[end], [place.shut && "shut"], [missing ? `${missing} short` : false, "limit"], ...full]);
+  return chips([[end], [place.shut && words.is_shut], [missing ? `${missing} short` : false, "limit"], ...full]);
 }
 
 /** @param {Place} place */
 export function aboutPlace(place) {
-  const roles = place.roles.filter((role) => !role.closed);
-  const shut = button("Shut it", () => act({ what: "shut", node: place.node }, `${place.name} is shut`), "plain");
-  const again = button("Open it again", () => act({ what: "open-place", node: place.node }, `${place.name} is open`), "plain");
-  const rows = [{ term: "Comes in", value: place.in }, { term: "Goes out", value: place.out },
+  const roles = place.roles.filter((role) => !role.closed), words = wording(), { enters, leaves } = words;
+  const shut = button(words.shut, () => act({ what: "shut", node: place.node }, `${place.name} is ${words.is_shut}`), "plain");
+  const again = button(words.again, () => act({ what: "open-place", node: place.node }, `${place.name} is ${words.is_open}`), "plain");
+  const rows = [{ term: enters, value: place.in }, { term: leaves, value: place.out },
     ...roles.map((role) => ({ term: upper(role.short), value: amounts(role) })),
-    ...(place.shut ? [{ term: "Passes through", value: "0", act: again }] : []),
-    ...(place.open ? [{ term: "Shutting it", value: leftWithout(place), id: "closing", act: shut }] : [])];
-  const lists = [pipes(place, "Comes in", place.entering, place.more[0]), pipes(place, "Goes out", place.leaving, place.more[1])];
+    ...(place.shut ? [{ term: words.through, value: "0", act: again }] : []),
+    ...(place.open ? [{ term: words.shutting, value: leftWithout(place), id: "closing", act: shut }] : [])];
+  const lists = [pipes(place, enters, place.entering, place.more[0]), pipes(place, leaves, place.leaving, place.more[1])];
   const fields = roles.map((role) => setting(role, `capacity-${role.number}`, [
     { words: inUnits(upper(role.short)), value: role.unlimited ? "" : role.capacity, as: "capacity" }]));
   return [make("h3", place.name), ...(caption() ? [make("p", caption(), { class: "soft" })] : []), marks(place), facts(rows),

@@ -3,7 +3,7 @@
  * @typedef {import("./state.js").Place} Place
  */
 import { form, make } from "./elements.js";
-import { act, ask, noun, units } from "./state.js";
+import { act, ask, noun, units, wording } from "./state.js";
 import { quoted } from "./words.js";
 
 /** How long the page waits for the next key before it asks whether a name is that of a place, in milliseconds. */
@@ -18,7 +18,7 @@ export function adding(place) {
   const head = typed("new-head"), room = typed("new-capacity"), name = typed("new-name");
   head.setAttribute("list", "places");
   const offered = newPlace(head), to = [make("p", `A new ${noun()} from here:`), make("label", ["leads to ", head]), offered.part];
-  const fields = [make("label", [`carries${units()} `, room]), make("label", ["name (may be left out) ", name])];
+  const fields = [make("label", [`${wording().added}${units()} `, room]), make("label", ["name (may be left out) ", name])];
   return form([...to, ...fields], "Add it", async () => {
     const what = offered.isWanted() ? "add-new" : "add";
     const asked = { what, tail: place.node, head: head.value, capacity: room.value, name: name.value };
@@ -59,8 +59,8 @@ function newPlace(head) {
       });
     }
     const isIt = near.length ? [" Is it ", ...near.flatMap((it, at) => [at ? " or " : "", it]), "\u2060?"] : [];
-    part.replaceChildren(make("p", [`No place is called ${quoted(text)}.`, ...isIt], { class: "soft" }),
-      make("label", [box, `New place: make ${quoted(text)}`]));
+    part.replaceChildren(make("p", [`No ${wording().place} is called ${quoted(text)}.`, ...isIt], { class: "soft" }),
+      make("label", [box, `New ${wording().place}: make ${quoted(text)}`]));
   };
   head.addEventListener("input", () => {
     clear();

@@ -1,6 +1,8 @@
 /**
  * The arrangement of the picture's labels in the window.
  * @typedef {import("./ink.js").Edges} Edges
+ * @typedef {import("./labels.js").Label} Label
+ * @typedef {import("./arrows.js").Arrow} Arrow
  */
 import { strokesOf } from "./arrows.js";
 import { Ink } from "./ink.js";
@@ -10,18 +12,34 @@ import { covers } from "./room.js";
 import { scale, seenBox } from "./view.js";
 
 /**
+ * What was arranged last.
+ * @type {[Label[], Arrow[], number]}
+ */
+let latest = [[], [], 1];
+
+/**
  * Arranges labels around what is drawn and what covers it.
- * @param {import("./labels.js").Label[]} labels
- * @param {import("./arrows.js").Arrow[]} arrows
+ * @param {Label[]} labels
+ * @param {Arrow[]} arrows
  * @param {number} by by what factor lines are thicker
  */
 export function arrangeLabels(labels, arrows, by) {
+  latest = [labels, arrows, by];
+  arrangeIn(null);
+}
+
+/**
+ * Arranges the same labels again, so that none is cut in a part of the window.
+ * @param {import("./room.js").Room | null} room in pixels from the window's corner, or null for the window beside what covers it
+ */
+export function arrangeIn(room) {
+  const [labels, arrows, by] = latest;
   const { x, y, width, height } = seenBox(), [across, down] = [x * scale(), y * scale()];
   const inPicture = (/** @type {Edges} */ box) =>
     ({ left: box.left + across, right: box.right + across, top: box.top + down, bottom: box.bottom + down });
-  const view = inPicture({ left: 0, right: width * scale(), top: 0, bottom: height * scale() });
+  const view = inPicture(room ?? { left: 0, right: width * scale(), top: 0, bottom: height * scale() });
   const ink = new Ink([...strokesOf(arrows, by), ...strokesSeen()], scale(), view);
   // From far away the places of the picture in front are not seen.
   const seen = labels.filter(({ part }) => !isFar() || part.matches(".chosen"));
-  arrange(seen, scale(), { ink, view, covers: covers().map(inPicture), thicker: by });
+  arrange(seen, scale(), { ink, view, covers: room ? [] : covers().map(inPicture), thicker: by });
 }

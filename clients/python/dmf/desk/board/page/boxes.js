@@ -22,6 +22,13 @@ export class Boxes {
     return keys;
   }
 
+  /** Returns an index of the same boxes, to which others can be added. */
+  copy() {
+    const copy = new Boxes();
+    copy.#fields = new Map(this.#fields);
+    return copy;
+  }
+
   /** @param {Edges} box */
   add(box) {
     for (const key of Boxes.#keys(box)) this.#fields.set(key, [...this.#fields.get(key) ?? [], box]);

@@ -34,13 +34,20 @@ export function pickPlace(place) {
 }
 
 /**
- * Returns a cell with an arc that a click selects. An arc that stands for a limit of a place is shown at that place.
- * @param {{ number: number, node: number, label?: string }} arc
+ * Returns a button that selects an arc. An arc that stands for a limit of a place is shown at that place.
+ * @param {{ number: number, node: number }} arc
  * @param {string} text
  */
-export function pick(arc, text = arc.label ?? "") {
+export function arcButton(arc, text) {
   const made = button(text, () => choose(arc.node ? { node: arc.node } : { arc: arc.number }), "link");
   // Another arc may have the same name.
   made.dataset.arc = String(arc.number);
-  return cell(made);
+  return made;
 }
+
+/**
+ * Returns a cell with a button that selects an arc.
+ * @param {{ number: number, node: number, label?: string }} arc
+ * @param {string} text
+ */
+export const pick = (arc, text = arc.label ?? "") => cell(arcButton(arc, text));

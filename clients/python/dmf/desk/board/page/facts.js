@@ -6,6 +6,7 @@
  */
 import { form, make } from "./elements.js";
 import { act, units } from "./state.js";
+import { tryTyped } from "./trial.js";
 
 /** @param {Fact[]} rows */
 export const facts = (rows) => make("dl", rows.map(({ term, value, id, act: button }) => make("div", [
@@ -26,7 +27,7 @@ export const amounts = (arc) => (arc.unlimited ? `${arc.flow}, no limit` : `${ar
 export const inUnits = (what) => `${what}${units() && " in"}${units()} `;
 
 /**
- * Returns the form that sets capacities of an arc.
+ * Returns the form that sets capacities of an arc, and says what those that are typed would bring.
  * @param {Arc} arc
  * @param {string} id
  * @param {{ words: string, value: string, as: string }[]} fields the field of each capacity: its words, its value and what sets it
@@ -36,8 +37,10 @@ export function setting(arc, id, fields, what = "cap") {
   const inputs = fields.map(({ value, as }, place) => make("input", [], { id: place ? `${id}-${as}` : id, value, autocomplete: "off",
     "data-of": `${arc.number} ${arc.label} ${as}`, "aria-describedby": `${id}-forms` }));
   const more = arc.unlimited ? "" : arc.limit ? ". A larger one may bring more." : ". A larger one brings nothing.";
-  const labels = fields.map(({ words }, place) => make("label", [words, inputs[place]]));
-  const made = form([...labels, make("span", `or +10 %, or -5${more} `, { id: `${id}-forms`, class: "soft" })], "Set", () => act({
+  const labels = fields.map(({ words }, place) => make("label", [words, inputs[place]])), usual = `or +10 %, or -5${more} `;
+  const hint = make("span", usual, { id: `${id}-forms`, class: "soft", "aria-live": "polite" });
+  for (const input of inputs) input.addEventListener("input", () => tryTyped(arc, inputs, hint, usual));
+  const made = form([...labels, hint], "Set", () => act({
     what, arc: arc.number, ...Object.fromEntries(fields.map(({ as }, place) => [as, inputs[place].value])) }));
   made.classList.add("setting");
   return made;

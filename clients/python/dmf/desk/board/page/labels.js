@@ -19,14 +19,15 @@ import { pointsOf } from "./ink.js";
 import { endSpot, leaderBoxes } from "./leading.js";
 import { freeSpot, sight } from "./spots.js";
 /** The bounds of the letters' height, in pixels; the height of a line for that; and the distance of a label from its place, in pixels. */
-const LEAST = 11.2, MOST = 14, LINE = 1.25, APART = 3;
+const LEAST = 11.2, MOST = 14, LINE = 1.25;
+export const APART = 3;
 /** The largest part of an oval that a label inside it may fill. */
 const FILLED = 1.6;
 /** The rank up to which labels are shown even if they have to lie on lines: those of the source, the sink and the selection. */
 const NEEDED = 0;
 /** The spots of a place's label, around the place, and between these if it is further out; and of an arc's, from where Graphviz put it, in
  * parts of its size. */
-const AROUND = [[1, 0], [-1, 0], [0, -1], [0, 1], [1, -1], [1, 1], [-1, -1], [-1, 1]];
+export const AROUND = [[1, 0], [-1, 0], [0, -1], [0, 1], [1, -1], [1, 1], [-1, -1], [-1, 1]];
 const BETWEEN = [[0.5, -1], [-0.5, -1], [0.5, 1], [-0.5, 1]];
 const BESIDE = [[0, 0], [0, -0.3], [0, 0.3], [0.3, 0], [-0.3, 0], [0, -0.6], [0, 0.6], [0.3, -0.3], [-0.3, 0.3]];
 /** Which points of an arc's line its label may lie beside, the best first; and how far the arrow reaches from the line, in pixels. */
@@ -121,33 +122,8 @@ function rank(part) {
  */
 let present = null;
 
-/**
- * Keeps names that are placed from now on away from a place, and returns the place's box.
- * @param {number} x in pixels
- * @param {number} y
- * @param {number} reach
- */
-export function cover(x, y, reach) {
-  const box = edges(x, y, reach, reach);
-  present?.taken.add(box);
-  present?.places.add(box);
-  return box;
-}
-
-/**
- * Takes a spot for a name beside a place, as for all labels, and returns its middle, or undefined if there is no room.
- * @param {Edges} own the box of the place
- * @param {[number, number]} size half the width and half the height of the name
- * @param {boolean} isNeeded whether it is shown even if it has to lie on lines
- */
-export function nameSpot(own, [right, down], isNeeded) {
-  if (!present) return undefined;
-  const [x, y, out] = [(own.left + own.right) / 2, (own.top + own.bottom) / 2, (own.right - own.left) / 2 + APART];
-  const found = AROUND.map(([along, below]) => /** @type {Place} */ ([x + along * (out + right), y + below * (out + down), false]));
-  const spot = freeSpot(found, [right, down], present, { own, isNeeded });
-  if (spot) present.taken.add(edges(spot[0], spot[1], right, down));
-  return spot;
-}
+/** Returns what the labels lie on, as an index to which others can be added, or null before they are arranged. */
+export const takenNow = () => present && { ...present, taken: present.taken.copy(), places: present.places.copy() };
 
 /** @param {Label} label */
 const isDotOfEnd = ({ oval, rank: importance }) => Boolean(oval?.isDot) && importance <= NEEDED;

@@ -6,6 +6,7 @@
 import { colourings, setLosses, shadeOf } from "./colourings.js";
 import { at, field, make, offer, replace } from "./elements.js";
 import { dropUntyped, isFilter, toggleFilter, watchFilter } from "./filter.js";
+import { wording } from "./state.js";
 import { grouped } from "./words.js";
 
 let chosen = "use";
@@ -43,7 +44,7 @@ function showLegend() {
     swatch.style.setProperty("--swatch", `var(--${shade.ink})`);
     const count = shown.isAll ? [make("em", grouped(counts.get(shade) ?? 0))] : [];
     const looks = { type: "button", class: "entry", "aria-pressed": String(isFilter(shade)) };
-    const entry = make("button", [swatch, `${shade.words} `, ...count], looks);
+    const entry = make("button", [swatch, `${wording().shades[shade.words] ?? shade.words} `, ...count], looks);
     entry.addEventListener("click", () => toggleFilter(shade));
     return make("li", entry);
   }));

@@ -5,7 +5,7 @@
  */
 import { at, button, form, make, replace } from "./elements.js";
 import { trouble } from "./messages.js";
-import { act, ask, noun, units } from "./state.js";
+import { act, ask, units, wording } from "./state.js";
 
 /** How many arcs can be selected at once, as in the board. */
 const MOST = 100_000;
@@ -76,7 +76,7 @@ async function showMany() {
 /** @param {Many} told */
 function about(told) {
   const opened = told.open.length, closed = told.closed.length;
-  const sums = opened ? `: ${told.flow} of ${told.capacity}${units()} flow` : "";
+  const sums = opened ? `: ${told.flow} of ${told.capacity}${units()} ${wording().flowing}` : "";
   const counts = [`${opened} open${sums}`, ...(closed ? [`${closed} closed`] : [])];
   /** @type {HTMLElement[]} */
   const parts = [make("p", `${opened + closed} chosen, ${counts.join("; ")}.`, { id: "many-told" })];
@@ -85,7 +85,7 @@ function about(told) {
     parts.push(
       button(`Close ${opened}`, () => act({ what: "close-all", arcs: told.open })),
       button(`Put a second one beside ${opened === 1 ? "it" : `each of ${opened}`}`, () => act({ what: "double-all", arcs: told.open })),
-      form([make("label", [`What each open ${noun()} can carry${units() && " in"}${units()} `, room]),
+      form([make("label", [`${wording().each}${units() && " in"}${units()} `, room]),
         make("span", "or +10 %, or -5 ", { id: "many-forms", class: "soft" })], `Set ${opened}`,
       () => act({ what: "cap-all", arcs: told.open, capacity: room.value })));
   }

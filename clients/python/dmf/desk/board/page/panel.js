@@ -3,6 +3,8 @@ import { at, onClick } from "./elements.js";
 import { keepFree } from "./view.js";
 
 const HEIGHTS = ["low", "middle", "full"];
+/** The least length of a drag, in pixels. */
+const DRAG = 4;
 /** @type {((part: string) => unknown)[]} */
 const watchers = [];
 
@@ -71,6 +73,46 @@ function setHeight(now) {
 /** Lowers the panel, if it is a bottom sheet, so that what lies over the picture can be seen. */
 export const lower = () => setHeight(HEIGHTS[0]);
 
+/** Returns the height of a bottom sheet in pixels. */
+const pixels = () => at("panel").getBoundingClientRect().height;
+
+/** Returns the height in pixels that each of the three has. */
+function pixelsOfEach() {
+  const now = height();
+  return HEIGHTS.map((it) => {
+    document.body.dataset.panel = it;
+    const found = pixels();
+    document.body.dataset.panel = now;
+    return found;
+  });
+}
+
+/** @param {number} high the height of the sheet while it is dragged, in pixels, or 0 for one of the three */
+const pull = (high) => document.documentElement.style.setProperty("--sheet", high ? `${high}px` : "");
+
+/**
+ * Lets a drag of the grip set the height, to the nearest of the three. A tap raises the sheet, or lowers it if it is full.
+ * @param {PointerEvent} event
+ */
+function grip(event) {
+  const host = at("panel-grip"), before = pixels(), heights = pixelsOfEach();
+  let now = before, isDragged = false;
+  host.setPointerCapture(event.pointerId);
+  host.onpointermove = ({ y }) => {
+    isDragged = isDragged || Math.abs(y - event.y) > DRAG;
+    now = Math.min(heights[2], Math.max(heights[0], before + event.y - y));
+    if (isDragged) pull(now);
+  };
+  const end = (/** @type {boolean} */ isPut) => {
+    host.onpointermove = host.onpointerup = host.onpointercancel = null;
+    const away = heights.map((it) => Math.abs(it - now)), nearest = HEIGHTS[away.indexOf(Math.min(...away))];
+    keepFree(() => pull(0));
+    if (isPut) setHeight(isDragged ? nearest : HEIGHTS[(HEIGHTS.indexOf(height()) + 1) % HEIGHTS.length]);
+  };
+  host.onpointerup = () => end(true);
+  host.onpointercancel = () => end(false);
+}
+
 /** @param {number} by the number of heights by which it grows */
 const grow = (by) => setHeight(HEIGHTS[Math.max(0, Math.min(2, HEIGHTS.indexOf(height()) + by))]);
 
@@ -99,6 +141,7 @@ export function beginPanel() {
   onClick("fold", () => fold(!at("panel-body").hidden));
   onClick("panel-more", () => grow(1));
   onClick("panel-less", () => grow(-1));
+  at("panel-grip").addEventListener("pointerdown", grip);
   setHeight(HEIGHTS[0]);
   // The panel and the legend begin below the headline.
   const heed = () => document.documentElement.style.setProperty("--head", `${at("head").getBoundingClientRect().bottom}px`);

@@ -9,9 +9,10 @@ const RIM = 12, LEAST = 80;
 
 /**
  * Returns the free part of the picture, in pixels from its corner.
+ * @param {number} rim how far it stays away from what covers the picture
  * @returns {Room}
  */
-export function freePart() {
+export function freePart(rim = RIM) {
   const whole = at("picture").getBoundingClientRect(), head = at("head").getBoundingClientRect();
   const foot = at("foot").getBoundingClientRect(), panel = at("panel").getBoundingClientRect(), fold = at("fold").getBoundingClientRect();
   const moves = at("moves").getBoundingClientRect(), beside = moves.height > moves.width ? moves.left : whole.width;
@@ -20,7 +21,7 @@ export function freePart() {
   const below = Math.min(whole.height, isSheet ? panel.top : whole.height, foot.height ? foot.top : whole.height);
   // If all is covered, as by a sheet at its full height, a part of the least size counts as free.
   const top = Math.min(head.bottom, whole.height - LEAST), bottom = Math.max(below, top + LEAST);
-  return { left: RIM, top: top + RIM, right: Math.max(right - RIM, RIM + LEAST), bottom: bottom - RIM };
+  return { left: rim, top: top + rim, right: Math.max(right - rim, rim + LEAST), bottom: bottom - rim };
 }
 
 /** Returns how many hundredths of its height the free part is wide. */

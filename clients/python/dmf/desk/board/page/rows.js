@@ -7,7 +7,7 @@ import { make } from "./elements.js";
 /** The height of a row in pixels, as in the style sheet. */
 export const HEIGHT = 32;
 export const COLUMNS = [
-  ["name", ""], ["from", "From"], ["to", "To"], ["flow", "flows"], ["capacity", "fits"], ["use", "use"], ["lost", "if lost"],
+  ["name", ""], ["from", "From"], ["to", "To"], ["flow", ""], ["capacity", ""], ["use", "use"], ["lost", "if lost"],
   ["change", "change"]];
 
 /**

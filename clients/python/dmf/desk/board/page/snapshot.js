@@ -1,7 +1,8 @@
 /** The picture as it is shown, as a file in PNG that is twice as large. */
+import { arrangeIn } from "./arranging.js";
 import { at, make, onClick } from "./elements.js";
 import { isGround } from "./ground.js";
-import { paintOn } from "./painting.js";
+import { paint, paintOn } from "./painting.js";
 import { freePart } from "./room.js";
 import { present } from "./state.js";
 import { freeBox, scale } from "./view.js";
@@ -39,14 +40,15 @@ function copyOf(shown) {
 }
 
 /**
- * Draws the picture in front of all arcs.
+ * Draws a copy of the picture in front of all arcs.
  * @param {CanvasRenderingContext2D} pen
- * @param {SVGSVGElement} shown
+ * @param {SVGSVGElement} copy
+ * @param {import("./view.js").Box} box the part of the picture
  * @param {number} wide the size in pixels of the page
  * @param {number} high
  */
-async function drawOn(pen, shown, wide, high) {
-  const box = freeBox(), copy = copyOf(shown), image = new Image();
+async function drawOn(pen, copy, box, wide, high) {
+  const image = new Image();
   for (const [name, value] of [["viewBox", `${box.x} ${box.y} ${box.width} ${box.height}`], ["width", wide], ["height", high]]) {
     copy.setAttribute(String(name), String(value));
   }
@@ -58,15 +60,21 @@ async function drawOn(pen, shown, wide, high) {
   URL.revokeObjectURL(image.src);
 }
 
-/** Draws the part of the picture that nothing covers, and hands it to the browser as a download. */
+/** Draws the part of the picture that nothing covers, with whole names, and hands it to the browser as a download. */
 async function take() {
-  const { left, top, right, bottom } = freePart(), [wide, high] = [right - left, bottom - top].map(Math.round);
+  // Up to what covers the picture, since a place may lie at the edge of the part that it is fitted to.
+  const part = freePart(0), box = freeBox(part);
+  const [wide, high] = [part.right - part.left, part.bottom - part.top].map(Math.round);
   const canvas = make("canvas", [], { width: String(LARGER * wide), height: String(LARGER * high) });
   const pen = /** @type {CanvasRenderingContext2D} */ (canvas.getContext("2d")), shown = at("picture").querySelector("svg");
   pen.fillStyle = getComputedStyle(at("picture")).backgroundColor;
   pen.fillRect(0, 0, canvas.width, canvas.height);
-  if (isGround()) paintOn(pen, freeBox(), LARGER);
-  if (shown) await drawOn(pen, shown, wide, high);
+  arrangeIn(part);
+  if (isGround()) paintOn(pen, box, LARGER);
+  const copy = shown && copyOf(shown);
+  arrangeIn(null);
+  paint();
+  if (copy) await drawOn(pen, copy, box, wide, high);
   canvas.toBlob((file) => {
     if (!file) return;
     const link = make("a", [], { download: `${fileName(present().title).replace(/\.[^.]*$/, "")}.png`, href: URL.createObjectURL(file) });

@@ -12,13 +12,16 @@
  *   `more`: how many other arcs enter it, and leave it
  * @typedef {{ arc: string, task: string, picture: string, choose: string, short: string, met: string, source: string, sink: string,
  *   all_given: string, all_taken: string, all_through: string, place: string, without: string, most: string, flow: string, idle: string,
- *   amount: string, legend: string, severed: string, crosses: string, crosses_one: string, demand_titles: string[] }} Words the words for
- *   this network: of pipes and places, or of a roster's people and shifts
+ *   amount: string, legend: string, enters: string, leaves: string, rest: string, shut: string, again: string, shutting: string,
+ *   is_shut: string, is_open: string, through: string, added: string, each: string, flowing: string, flows: string, fits: string,
+ *   forms: string, severed: string, crosses: string, crosses_one: string, demand_titles: string[], shades: Record<string, string> }} Words
+ *   the words for this network: of pipes and places, or of a roster's people and shifts
  * @typedef {{ turn: number, title: string, unit: string, words: Words, notes: string[], source: string, sink: string, value: string,
  *   arcs: number, given: number, places: number, kept_in: string, scenario: string, why_not: string, floor: number,
  *   offer: string, flows_follow: boolean, at: number, by: string,
  *   steps: { text: string, value: string, by: string }[], limit: Arc[], limit_count: number, side: string[], side_count: number,
- *   demands: string, asked: string, short: Short[], short_count: number, names: string[], parts?: Record<string, any> }} State
+ *   demands: string, asked: string, short: Short[], short_count: number, names: string[], parts?: Record<string, any>,
+ *   can_print: boolean }} State
  * @typedef {{ node: number, name: string, flow: string, limit: string, missing: string }} Short a place that gets less than it asks for
  * @typedef {{ arc?: number, node?: number }} Choice
  */

@@ -54,7 +54,10 @@ export function showSummary(state) {
     ? `Each step is kept in ${state.kept_in}.` : "Nothing is saved of itself: the steps end with this page.";
   at("keep").hidden = !state.offer;
   at("keep").textContent = `Keep them, and go on another day: ${state.offer}`;
-  for (const [id, file] of [["take-csv", "plan.csv"], ["take-max", "problem.max"], ["take-report", "report.html"]]) {
+  at("take-pdf").hidden = !state.can_print;
+  at("report-told").hidden = state.can_print;
+  for (const [id, file] of [["take-csv", "plan.csv"], ["take-max", "problem.max"], ["take-report", "report.html"],
+    ["take-pdf", "report.pdf"]]) {
     at(id).setAttribute("href", `${file}?turn=${state.turn}`);
   }
 }

@@ -9,7 +9,7 @@ import { filterWords, typeFilter } from "./filter.js";
 import { isPicked, pickMore, pickThese, toggle, watchPicked } from "./many.js";
 import { trouble } from "./messages.js";
 import { COLUMNS, fill, HEIGHT, row, spacer, title } from "./rows.js";
-import { ask, caption, noun, units } from "./state.js";
+import { ask, caption, noun, units, wording } from "./state.js";
 import { sentence, upper } from "./words.js";
 
 /** The rows in one request; and the rows by which Page Up and Page Down move. */
@@ -72,8 +72,10 @@ async function scrolled() {
 }
 
 function draw() {
+  /** @type {Record<string, string>} */
+  const own = { name: upper(noun()), flow: wording().flows, capacity: wording().fits };
   const heads = COLUMNS.map(([column, told]) => {
-    const sort = make("button", told || upper(noun()), { type: "button", class: "link" });
+    const sort = make("button", own[column] ?? told, { type: "button", class: "link" });
     sort.addEventListener("click", () => {
       order = order === column ? `-${column}` : order === `-${column}` ? "" : column;
       at("rows").scrollTop = 0;
@@ -214,6 +216,6 @@ export function showFiltered() {
 /** Says what can be typed into the filter, and the unit of amounts. */
 export const showForms = () => {
   at("listed-head").textContent = `All ${noun()}s`;
-  at("filter-forms").textContent = "A part of a name, or use > 80, lost > 10, fits < 60, flows > before, from ~ Mill, full, bottleneck,"
+  at("filter-forms").textContent = `A part of a name, or use > 80, ${wording().forms}, full, bottleneck,`
     + ` closed, added, changed; with “and” between two, and “not” before one. Amounts are in${units() || " the table’s unit"}, use in %.`;
 };

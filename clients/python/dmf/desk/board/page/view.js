@@ -120,11 +120,12 @@ export function move(right, down, isGesture = false) {
 }
 
 /**
- * Returns the visible part of the picture that nothing covers.
+ * Returns a part of the window, or the one that nothing covers, in units of the picture.
+ * @param {import("./room.js").Room} part
  * @returns {Box}
  */
-export function freeBox() {
-  const { left, top, right, bottom } = freePart(), by = scale();
+export function freeBox({ left, top, right, bottom } = freePart()) {
+  const by = scale();
   return { x: seen.x + left / by, y: seen.y + top / by, width: (right - left) / by, height: (bottom - top) / by };
 }
 

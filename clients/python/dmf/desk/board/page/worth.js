@@ -1,14 +1,15 @@
 /**
- * What is left without each arc and each place. The board computes that in the background for each new state, and the page asks until it
- * is known.
+ * What is left without each arc, each place and each of the worst pairs of arcs. The board computes that in the background for each new
+ * state, and the page asks until it is known.
  * @typedef {import("./state.js").Arc} Arc
  * @typedef {{ node: number, name: string, without: string, lost: string }} LostPlace
  * @typedef {{ worst: LostPlace[], more: number }} LostPlaces
- * @typedef {{ is_finding: boolean, is_known: boolean, worst: Arc[], more: number, places: LostPlaces,
+ * @typedef {{ arcs: Arc[], without: string, lost: string }} LostPair
+ * @typedef {{ is_finding: boolean, is_known: boolean, worst: Arc[], more: number, places: LostPlaces, pairs: LostPair[] | null,
  *   losses: Record<string, string> }} Worth
  */
-import { pick, pickPlace } from "./choice.js";
-import { at, fill, numberCell } from "./elements.js";
+import { arcButton, pick, pickPlace } from "./choice.js";
+import { at, cell, fill, numberCell } from "./elements.js";
 import { colourByLoss } from "./legend.js";
 import { ask, caption, noun, present, units, wording } from "./state.js";
 import { grouped, upper } from "./words.js";
@@ -37,34 +38,68 @@ export function findWorth() {
 /** @param {boolean} isOld */
 function markOld(isOld) {
   at("worst").classList.toggle("old", isOld);
-  at("worst").setAttribute("aria-busy", String(isOld));
   if (!isOld) return;
+  at("worst").setAttribute("aria-busy", "true");
   at("worst-note").textContent = "These are from before the change. The new ones are being found ..";
   at("worst-places-note").textContent = "";
+  at("worst-pairs-note").textContent = "";
 }
 
 /** @param {number} turn */
 async function follow(turn) {
-  /** @type {Worth | null | undefined} */
-  let told = null;
-  for (let pause = SOON; !told || told.is_finding; pause = Math.min(2 * pause, LATE)) {
+  let isFinding = true, isShown = false;
+  for (let pause = SOON; isFinding; pause = Math.min(2 * pause, LATE)) {
     await new Promise((go) => setTimeout(go, pause));
     if (turn !== asked) return;
-    told = await ask("worth", undefined, true);
+    /** @type {Worth | null | undefined} */
+    const told = await ask("worth", undefined, true);
     if (turn !== asked || !told) return;
+    isFinding = told.is_finding;
+    if (!told.losses) continue;
+    if (!isShown) show(told);
+    isShown = true;
+    showPairs(told);
   }
-  markOld(false);
-  show(told);
-  colourByLoss(new Map(Object.entries(told.losses).map(([number, loss]) => [Number(number), Number(loss)])));
-  for (const watcher of watchers) watcher();
 }
 
 /** @param {Worth} told */
 function show(told) {
+  markOld(false);
   at("worst").hidden = !told.is_known;
   showTable("worst", noun(), "one of these is closed", told.more, told.worst.map((arc) => ({ ...arc, cell: pick(arc) })));
   const { worst, more } = told.places;
   showTable("worst-places", wording().place, wording().without, more, worst.map((place) => ({ ...place, cell: pickPlace(place) })));
+  colourByLoss(new Map(Object.entries(told.losses).map(([number, loss]) => [Number(number), Number(loss)])));
+  for (const watcher of watchers) watcher();
+}
+
+/**
+ * Shows the pairs of arcs that cost most to lose together, which are found last.
+ * @param {Worth} told
+ */
+function showPairs({ is_finding: isFinding, pairs }) {
+  const table = at("worst-pairs-table");
+  at("worst").setAttribute("aria-busy", String(isFinding));
+  table.classList.toggle("old", isFinding);
+  at("worst-pairs-note").textContent = isFinding
+    ? `Finding the two ${noun()}s that cost most to lose together ..`
+    : pairsNote(pairs);
+  if (isFinding) return;
+  table.hidden = !pairs?.length;
+  fill("worst-pairs-table", caption(), ["Closed together", "without both", "lost"], (pairs ?? []).map(
+    ({ arcs: [first, second], without, lost }) => [
+      cell([arcButton(first, first.short), " and ", arcButton(second, second.short)]), numberCell(without), numberCell(lost),
+    ],
+  ));
+}
+
+/** @param {LostPair[] | null} pairs */
+function pairsNote(pairs) {
+  const two = `two ${noun()}s`;
+  if (!pairs) return `This page does not list which ${two} cost most to lose together; “worst pairs” in dmf plan does.`;
+  return pairs.length
+    ? `The ${two} of each row cost most to lose together: of ${present().value}${units()}, so much is left if both are closed.`
+    : `No ${two} together cost anything to lose.`;
 }
 
 /**

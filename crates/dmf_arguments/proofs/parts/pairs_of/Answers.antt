@@ -1,5 +1,5 @@
 use Rattle.std.proofs.Common.{refl}
-use Rattle.dmf_arguments.proofs.words.pairs_of.Goals as goal
+use Rattle.dmf_arguments.proofs.parts.pairs_of.Goals as goal
 
 pub returns-then-nodes : goal.returns-then-nodes
 returns-then-nodes c = rw c.if-nodes.true (refl, c.refused.ensures)
