@@ -11,7 +11,7 @@ from typing import Any
 
 import pytest
 from client_shared import BUILT, CLIENT, PIPES, dmf, pipes, written
-from dmf.session import base
+from dmf.session import column_texts
 from packages import load
 
 LARGEST = 2**64 - 1
@@ -98,7 +98,7 @@ def test_a_frame_is_anything_with_columns() -> None:
 def numpy_or_none(request: pytest.FixtureRequest, monkeypatch: pytest.MonkeyPatch) -> None:
     """With numpy, where it is there, and without it: problems are written and read in two ways."""
     monkeypatch.setattr(
-        base, "loaded_numpy", lambda: numpy if request.param == "with numpy" else None
+        column_texts, "loaded_numpy", lambda: numpy if request.param == "with numpy" else None
     )
 
 
@@ -107,7 +107,7 @@ def test_numbers_of_all_lengths() -> None:
     """Numbers of each count of digits, also more arcs than are written at once, reach the program
     and come back."""
     random = Random("lengths")
-    for count in 1, 3, base.PIECE, 2 * base.PIECE + 5:
+    for count in 1, 3, column_texts.PIECE, 2 * column_texts.PIECE + 5:
         rows = [
             (
                 random.randrange(10 ** random.randint(1, 5)),

@@ -20,7 +20,8 @@ from .rows import (
     refuse_node,
     whole,
 )
-from .session.base import import_package, kind_for
+from .session.base import import_package
+from .session.column_texts import kind_for
 from .text.lexical import AMOUNTS, MOST_NODES, NO_NODE, NODES, NUMBERS
 
 

@@ -12,7 +12,7 @@ from operator import gt
 from typing import TYPE_CHECKING, Any, Generic, TypeVar
 
 from .errors import NoSuchArc, shown_value
-from .session.base import loaded_numpy
+from .session.column_texts import loaded_numpy
 from .text.lexical import NO_NODE, NODES, NUMBERS
 
 if TYPE_CHECKING:

@@ -11,7 +11,7 @@ from .capacities import CapacityReader
 from .columns import Columns
 from .graph_rows import GivenNetwork, is_networkx
 from .scaled_solution import numbers_of
-from .session.base import kind_for
+from .session.column_texts import kind_for
 from .state import NetworkState
 
 if TYPE_CHECKING:

@@ -13,17 +13,8 @@ from .errors import CapacitiesPast64Bits, Refused
 from .graph_flows import EdgeFlow, MatrixFlow, flow_dictionaries, flows_on_edges, net_matrix
 from .graph_rows import GivenNetwork, given_network, is_igraph, is_networkx
 from .rows import Whole
-from .session.base import (
-    PROGRAM,
-    ProblemColumns,
-    Program,
-    Runner,
-    Solved,
-    Way,
-    flow_array,
-    problem_pieces,
-    where,
-)
+from .session.base import PROGRAM, ProblemColumns, Program, Runner, Solved, Way, where
+from .session.column_texts import flow_array, problem_pieces
 from .session.fresh import CUT, FLOW, VALUE, solved, values_without, worst_among
 from .session.runners import chosen, program_of
 from .text.lexical import AMOUNTS, LARGEST

@@ -8,7 +8,8 @@ from typing import TYPE_CHECKING, Any
 
 from . import arrays
 from .columns import Node
-from .session.base import import_package, kind_for
+from .session.base import import_package
+from .session.column_texts import kind_for
 from .solution import Flows, Solution
 from .text.lexical import NODES
 

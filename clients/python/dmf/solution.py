@@ -10,7 +10,8 @@ from . import arrays
 from .arcs import Arc, OpenArcs
 from .columns import Node
 from .errors import NoSuchArc, SessionEnded
-from .session.base import Told, flow_array, read_flows
+from .session.base import Told
+from .session.column_texts import flow_array, read_flows
 
 if TYPE_CHECKING:
     from .notebook import Look

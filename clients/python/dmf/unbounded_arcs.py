@@ -12,7 +12,8 @@ from collections.abc import Callable, Sequence
 from typing import NamedTuple
 
 from .errors import Unbounded
-from .session.base import ProblemColumns, Solved, Told, read_flows
+from .session.base import ProblemColumns, Solved, Told
+from .session.column_texts import read_flows
 from .session.fresh import FLOW
 from .text.lexical import AMOUNTS, NODES
 

@@ -12,7 +12,8 @@ from typing import TYPE_CHECKING, NamedTuple
 
 from ..errors import Error, FlowIsNotGreatest
 from ..losses import PairsWithout
-from ..session.base import Part, Program, Solved, ValuesWithout, problem_pieces
+from ..session.base import Part, Program, Solved, ValuesWithout
+from ..session.column_texts import problem_pieces
 from ..session.fresh import CUT, solved
 from ..session.runners import program_of
 from ..tables.loader import LoadedProblem

@@ -3,6 +3,6 @@ session.
 
 This package knows only the numbers of nodes and arcs, and must not know names, tables or a
 `Network`.
-Entrances: `base` (`Session`, and what it is asked), `runners` (begins one) and `fresh` (answers
-from scratch).
+Entrances: `base` (`Session`, and what it is asked), `runners` (begins one), `fresh` (answers from
+scratch) and `column_texts` (columns as lines, and lines as columns).
 """

@@ -23,9 +23,9 @@ from .base import (
     Way,
     WorstWithout,
     command_line,
-    problem_pieces,
     refused,
 )
+from .column_texts import problem_pieces
 
 if TYPE_CHECKING:
     import subprocess

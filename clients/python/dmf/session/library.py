@@ -15,21 +15,8 @@ from typing import Any
 from ..errors import NoProgram, Refused
 from ..history import Command
 from ..text.lexical import AMOUNTS, NODES, display
-from .base import (
-    ArcColumns,
-    Part,
-    ProblemColumns,
-    Ranked,
-    Session,
-    Solved,
-    ValuesWithout,
-    WorstWithout,
-    command_line,
-    judged,
-    problem_pieces,
-    refused,
-    refused_line,
-)
+from .base import ArcColumns, Part, ProblemColumns, Ranked, Session, Solved, ValuesWithout, WorstWithout, command_line, judged, refused, refused_line
+from .column_texts import problem_pieces
 from .statuses import (
     BAD_LENGTH,
     BAD_TEXT,

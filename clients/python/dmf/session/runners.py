@@ -13,7 +13,8 @@ from typing import TYPE_CHECKING, Protocol
 from ..errors import NoProgram
 from ..files import path_of, scratch
 from ..history import Command
-from .base import PROGRAM, FilePath, ProblemColumns, Program, Session, Way, problem_pieces
+from .base import PROGRAM, FilePath, ProblemColumns, Program, Session, Way
+from .column_texts import problem_pieces
 
 if TYPE_CHECKING:
     from .library import Library

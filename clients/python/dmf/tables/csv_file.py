@@ -19,7 +19,7 @@ from typing import TYPE_CHECKING, Any, NamedTuple, Optional
 
 from ..errors import TableFault
 from ..quantity import readings
-from ..session.base import numpy_for
+from ..session.column_texts import numpy_for
 from .other_kinds import refuse_other_kinds
 from .sheet import DELIMITERS, PIECE, Rows, Sheet
 from .table_file import TableFile

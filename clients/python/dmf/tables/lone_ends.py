@@ -8,7 +8,7 @@ from itertools import compress
 from operator import eq, ne
 from typing import Any
 
-from ..session.base import numpy_for
+from ..session.column_texts import numpy_for
 
 
 def ends_alone(tails: Sequence[int], heads: Sequence[int]) -> tuple[list[int], list[int]]:

@@ -13,7 +13,8 @@ from typing import TYPE_CHECKING, Any, cast
 
 from ..columns import Columns
 from ..network import Network
-from ..session.base import FilePath, Program, Session, bound, numpy_for, pieces_of, read_lines
+from ..session.base import FilePath, Program, Session, bound
+from ..session.column_texts import numpy_for, pieces_of, read_lines
 from ..session.runners import chosen, started_on
 from ..state import NetworkState
 from ..text.lexical import AMOUNTS, ARC, NODE, NODES

@@ -12,7 +12,7 @@ from itertools import compress, count, islice
 from operator import eq, not_
 from typing import Any
 
-from ..session.base import numpy_for
+from ..session.column_texts import numpy_for
 from ..text.spelling import MOST_TOLD, cleaned, near, quoted_name
 from .built_problem import BuiltProblem
 from .headings import ARCS
