@@ -1,22 +1,35 @@
-"""The C library in this process: its calls, and a session that makes them. include/dmf.h says what
-each call does."""
+"""The C library in this process, and a session that makes its calls. include/dmf.h says what each
+call does."""
 
 from __future__ import annotations
 
-import contextlib
 import ctypes
 import functools
 import math
 from array import array
-from collections.abc import Callable, Iterator, Sequence
+from collections.abc import Callable, Sequence
 from itertools import compress, count
 from typing import Any
 
-from ..errors import NoProgram, Refused
+from ..errors import Refused
 from ..history import Command
-from ..text.lexical import AMOUNTS, NODES, display
-from .base import ArcColumns, Part, ProblemColumns, Ranked, Session, Solved, ValuesWithout, WorstWithout, command_line, judged, refused, refused_line
+from ..text.lexical import AMOUNTS, NODES
+from .base import (
+    ArcColumns,
+    Part,
+    ProblemColumns,
+    Ranked,
+    Session,
+    Solved,
+    ValuesWithout,
+    WorstWithout,
+    command_line,
+    judged,
+    refused,
+    refused_line,
+)
 from .column_texts import problem_pieces
+from .library_calls import LONG, POINTER, SIZE, WORD, LibraryCalls, loading, open_library
 from .statuses import (
     BAD_LENGTH,
     BAD_TEXT,
@@ -28,7 +41,6 @@ from .statuses import (
     SUM_TOO_LARGE,
     TOO_MANY_ARCS,
 )
-from .versions import ABI, fits, other_version
 from .worker_threads import Given, Handle, Job
 
 # For networks with at most MOST_AT_ONCE arcs, all calls run in the caller's thread, where Ctrl-C
@@ -39,61 +51,16 @@ from .worker_threads import Given, Handle, Job
 # MOST_PAIRED_AT_ONCE.
 MOST_AT_ONCE, MOST_LOST_AT_ONCE, MOST_PAIRED_AT_ONCE, MOST_STEPS = 20_000, 1_000, 100, 4
 
-# The commands that calls of the library carry out, each with how many numbers follow its word.
-COMMANDS = {"cap": 2, "add": 3, "close": 1, "shut": 1, "solve": 0, "undo": 1, "redo": 1}
 STEPS = "undo", "redo"
-_POINTER, _WORD, _LONG, _SIZE = ctypes.c_void_p, ctypes.c_uint32, ctypes.c_uint64, ctypes.c_size_t
 
 
-class Library:
-    """The loaded library."""
-
-    def __init__(self, path: str, loaded: ctypes.CDLL) -> None:
-        """Raise an AttributeError if the library lacks a call."""
-        self.path = path
-        self._loaded = loaded
-        ends = [_WORD, _WORD, _WORD, *[_POINTER, _SIZE] * 3, _WORD, _POINTER, _POINTER]
-        self.new = self._call("dmf_session_new", ends)
-        self.read = self._call(
-            "dmf_session_read", [_POINTER, _SIZE, _WORD, _POINTER, _POINTER, _POINTER]
-        )
-        self.free = self._call("dmf_session_free", [_POINTER], None)
-        self.commands = {
-            word: self._call(f"dmf_session_{word}", [_POINTER, *[_LONG] * many])
-            for word, many in COMMANDS.items()
-        }
-        self.value = self._call("dmf_session_value", [_POINTER], _LONG)
-        self.nodes = self._call("dmf_session_nodes", [_POINTER])
-        self.arcs = self._call("dmf_session_arcs", [_POINTER], _SIZE)
-        self.flows = self._call("dmf_session_flows", [_POINTER, _POINTER, _SIZE])
-        self.side = self._call("dmf_session_side", [_POINTER, _POINTER, _SIZE])
-        found = [_POINTER, _POINTER, *[_POINTER, _SIZE] * 2]
-        self.maximum_flow = self._call("dmf_session_maximum_flow", found)
-        self.losses = {
-            part: self._call(f"dmf_session_{part.value}_losses", [_POINTER, _POINTER, _SIZE])
-            for part in Part
-        }
-        self.worst = {
-            ranked: self._call(
-                f"dmf_session_worst_{ranked.value}",
-                [_POINTER, *[_POINTER, _SIZE] * _array_count(ranked), _POINTER],
-            )
-            for ranked in Ranked
-        }
-        self.new_arc_gains = self._call(
-            "dmf_session_new_arc_gains", [_POINTER, *[_POINTER, _SIZE] * 4]
-        )
-        self.problem = self._call("dmf_session_problem", [_POINTER, _POINTER, _SIZE, _POINTER])
-
-    def _call(self, name: str, arguments: list[Any], result: Any = _WORD) -> Callable[..., int]:
-        call: Any = getattr(self._loaded, name)
-        call.argtypes, call.restype = arguments, result
-        return call  # type: ignore[no-any-return]
+class Library(LibraryCalls):
+    """The loaded library, which begins sessions."""
 
     def begin(self, problem: ProblemColumns, most: int) -> LibrarySession:
         """Begin a session on a problem, in which at most `most` changes can be undone. Raises a
         `Refused` as the program does for the text of the problem."""
-        address, bad_arc = _POINTER(), _SIZE()
+        address, bad_arc = POINTER(), SIZE()
         columns = [
             part for column in problem.columns() for part in (_place(column), len(problem.tails))
         ]
@@ -108,7 +75,7 @@ class Library:
 
     def begin_text(self, text: bytes, most: int) -> LibrarySession:
         """Begin a session on the text of a problem. Raises a `Refused` as the program does."""
-        address, line, fault = _POINTER(), _LONG(), _WORD()
+        address, line, fault = POINTER(), LONG(), WORD()
         places = ctypes.byref(address), ctypes.byref(line), ctypes.byref(fault)
         status = self.read(text, len(text), most, *places)
         if status == BAD_TEXT:
@@ -119,49 +86,13 @@ class Library:
         return LibrarySession(self, address.value or 0, self.arcs(address))
 
 
-def _array_count(ranked: Ranked) -> int:
-    """Return how many arrays the call that ranks these takes: numbers, losses and, for arcs, the
-    marks of those that are chosen."""
-    return ranked.column_count + (1 if ranked is Ranked.NODES else 2)
-
-
 @functools.cache
 def load(path: str) -> Library:
     """Load the library at this path. Raises `NoProgram` if it cannot be loaded, or has a version
     that this package does not work with."""
-    with _loading(path):
-        loaded = ctypes.CDLL(path)
-        version = loaded.dmf_version()
-    refuse_other(path, version)
-    with _loading(path):
-        interface = loaded.dmf_abi()
-    refuse_interface(path, interface)
-    with _loading(path):
+    loaded = open_library(path)
+    with loading(path):
         return Library(path, loaded)
-
-
-@contextlib.contextmanager
-def _loading(path: str) -> Iterator[None]:
-    """Raise `NoProgram` if a library cannot be loaded, or lacks a call."""
-    try:
-        yield
-    except (OSError, AttributeError) as error:
-        raise NoProgram(f"{display(path)} cannot be loaded: {display(str(error))}") from error
-
-
-def refuse_other(path: str, number: int) -> None:
-    """Raise `NoProgram` for a library of a version that this package does not work with. The
-    library gives its version as a number."""
-    major, rest = divmod(number, 10_000)
-    version = f"{major}.{rest // 100}.{rest % 100}"
-    if not fits(version):
-        raise other_version(display(path), version)
-
-
-def refuse_interface(path: str, number: int) -> None:
-    """Raise `NoProgram` for a library whose calls have another form than this package uses."""
-    if number != ABI:
-        raise NoProgram(f"{display(path)} has the interface {number}, and this package needs {ABI}")
 
 
 class LibrarySession(Session):
@@ -285,7 +216,7 @@ class LibrarySession(Session):
         return self._do(self._maximum_flow, want_flows, want_side)
 
     def _maximum_flow(self, held: Handle, want_flows: bool, want_side: bool) -> Solved:
-        address, value = held.address, _LONG()
+        address, value = held.address, LONG()
         flows = array(AMOUNTS, [0]) * (self._library.arcs(address) if want_flows else 0)
         marks = array("B", bytes(self._library.nodes(address) if want_side else 0))
         columns = _place(flows), len(flows), _place(marks), len(marks)
@@ -319,7 +250,7 @@ class LibrarySession(Session):
         arcs = len(among) - among.count(0) if among else self._library.arcs(address)
         most = min(most, ranked.count(self._library.nodes(address), arcs))
         numbers = [array(NODES, [0]) * most for _ in range(ranked.column_count)]
-        losses, found = array(AMOUNTS, [0]) * most, _SIZE()
+        losses, found = array(AMOUNTS, [0]) * most, SIZE()
         columns: list[Any] = [
             part for column in (*numbers, losses) for part in (_place(column), most)
         ]
@@ -361,7 +292,7 @@ class LibrarySession(Session):
         return self._do(self._problem)
 
     def _problem(self, held: Handle) -> bytes:
-        length = _SIZE()
+        length = SIZE()
         text = array("B")
         while True:
             status = self._library.problem(
@@ -383,12 +314,12 @@ class LibrarySession(Session):
         has another value at the end; then none of their values is used. Numbers are ctypes objects,
         since ctypes would convert each number again."""
         address, calls, value_of = (
-            _POINTER(held.address),
+            POINTER(held.address),
             self._library.commands,
             self._library.value,
         )
         solve, undo = calls["solve"], calls["undo"]
-        back = [_LONG(steps) for steps in range(2 + max(map(len, cases), default=0))]
+        back = [LONG(steps) for steps in range(2 + max(map(len, cases), default=0))]
         begin = len(found)
         for commands in cases:
             if self._why_broken:
