@@ -2,23 +2,21 @@
 
 from __future__ import annotations
 
-from array import array
 from collections.abc import Hashable, Mapping
-from functools import partial
 from typing import TYPE_CHECKING, Any, Dict, overload
 
 from .capacities import CapacityReader, Scale
 from .columns import Node
-from .errors import CapacitiesPast64Bits, Refused
+from .errors import Refused
 from .graph_flows import EdgeFlow, MatrixFlow, flow_dictionaries, flows_on_edges, net_matrix
-from .graph_rows import GivenNetwork, given_network, is_igraph, is_networkx
+from .graph_rows import given_network, is_igraph, is_networkx
+from .graph_solves import bounded_problem, solved_graph
 from .rows import Whole
-from .session.base import PROGRAM, ProblemColumns, Program, Runner, Solved, Way, where
-from .session.column_texts import flow_array, problem_pieces
-from .session.fresh import CUT, FLOW, VALUE, solved, values_without, worst_among
-from .session.runners import chosen, program_of
-from .text.lexical import AMOUNTS, LARGEST
-from .unbounded_arcs import BoundlessFlow, flows_of, solve_unbounded
+from .session.base import Program, Solved, where
+from .session.column_texts import flow_array
+from .session.fresh import CUT, FLOW, VALUE, values_without, worst_among
+from .session.runners import program_of
+from .unbounded_arcs import flows_of
 
 if TYPE_CHECKING:
     from decimal import Decimal
@@ -108,7 +106,7 @@ def value(
     """
     reader = CapacityReader(infinite, scale)
     given = given_network(graph, source, sink, capacity, reader)
-    return reader.quantity(_solved(given, VALUE, program).value)
+    return reader.quantity(solved_graph(given, VALUE, program).value)
 
 
 @overload
@@ -179,7 +177,7 @@ def minimum_cut(
     """
     reader = CapacityReader(infinite, scale)
     given = given_network(graph, source, sink, capacity, reader)
-    found = _solved(given, CUT, program)
+    found = solved_graph(given, CUT, program)
     names = given.state.columns.names
     side = {names[node - 1] for node in found.side}
     return reader.quantity(found.value), (side, {node for node in names if node not in side})
@@ -281,7 +279,7 @@ def maximum_flow(
         )
     reader = CapacityReader(infinite, scale)
     given = given_network(graph, source, sink, capacity, reader)
-    found, columns = _solved(given, FLOW, program), given.state.columns
+    found, columns = solved_graph(given, FLOW, program), given.state.columns
     amount, count = reader.quantity(found.value), len(columns)
     if is_matrix:
         assert isinstance(found, Solved), "an entry of a matrix has a bound"
@@ -344,7 +342,7 @@ def vital(
     reader = CapacityReader(infinite, scale)
     given = given_network(graph, source, sink, capacity, reader)
     state = given.state
-    problem = _bounded(given, program) if given.unbounded else state.problem()
+    problem = bounded_problem(given, program) if given.unbounded else state.problem()
     try:
         finder = Finder(
             problem.nodes,
@@ -356,45 +354,3 @@ def vital(
         return VitalArcs.of(state.every_arc(), finder, reader.measure, top)
     except Refused as refused:
         raise where(refused, state.handle) from None
-
-
-def _bounded(given: GivenNetwork, program: Program) -> ProblemColumns:
-    """Return a problem in which no arc carries more than the greatest value. With or without any
-    arc, its greatest value is the same as if arcs had no bound."""
-    problem, most = given.state.problem(), _solved(given, VALUE, program).value
-    rooms = [min(room, most) for room in problem.capacities]
-    for place in given.unbounded:
-        rooms[place] = most
-    if sum(rooms) > LARGEST:
-        raise CapacitiesPast64Bits("arcs without a bound")
-    return problem._replace(capacities=array(AMOUNTS, rooms))
-
-
-def _solved(given: GivenNetwork, words: list[str], program: Program) -> Solved | BoundlessFlow:
-    """Run the program's or the library's solve with these words. Raises a `Refused` that names the
-    faulty arc."""
-    solver = partial(_solved_problem, way=chosen(program), program=program)
-    problem = given.state.problem()
-    try:
-        if given.unbounded and sum(problem.capacities) <= LARGEST:
-            return solve_unbounded(problem, given.unbounded, words, solver)
-        # Capacities that are past 64 bits together are refused, whatever the others are.
-        return solver(problem, words)
-    except Refused as refused:
-        raise where(refused, given.state.handle) from None
-
-
-def _solved_problem(
-    problem: ProblemColumns, words: list[str], way: Way, program: Program
-) -> Solved:
-    if not isinstance(way, PROGRAM):
-        return _by_library(problem, words, way)
-    return solved(problem_pieces(problem), words, program_of(program))
-
-
-def _by_library(problem: ProblemColumns, words: list[str], library: Runner) -> Solved:
-    session = library.begin(problem, 0)
-    try:
-        return session.maximum_flow(want_flows=words == FLOW, want_side=words == CUT)
-    finally:
-        session.end()
