@@ -41,6 +41,7 @@ if TYPE_CHECKING:
     from importlib.machinery import ModuleSpec
 
     from .arcs import Arc as Arc
+    from .cut import Cut as Cut
     from .desk.project.comparison import Comparison as Comparison
     from .desk.project.open_project import new_project as new_project
     from .desk.project.open_project import open_project as open_project
@@ -106,7 +107,6 @@ if TYPE_CHECKING:
     from .scaled_solution import ScaledSolution as ScaledSolution
     from .session.executable import program as program
     from .session.runners import library as library
-    from .solution import Cut as Cut
     from .solution import Solution as Solution
     from .sweeps.cases import SweepResult as SweepResult
     from .sweeps.cases import each_arc_closed as each_arc_closed
@@ -121,6 +121,7 @@ if TYPE_CHECKING:
 # The public names of each module. The module `errors` lists those of the exceptions itself.
 _NAMES = {
     "arcs": ["Arc"],
+    "cut": ["Cut"],
     "desk.project.comparison": ["Comparison"],
     "desk.project.open_project": ["new_project", "open_project"],
     "desk.project.python_project": ["OpenProject"],
@@ -134,7 +135,7 @@ _NAMES = {
     "scaled_solution": ["ScaledSolution"],
     "session.executable": ["program"],
     "session.runners": ["library"],
-    "solution": ["Cut", "Solution"],
+    "solution": ["Solution"],
     "sweeps.cases": [
         "SweepResult",
         "each_arc_closed",

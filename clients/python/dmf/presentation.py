@@ -10,10 +10,11 @@ from typing import TYPE_CHECKING, Any
 
 from .arcs import OpenArcs
 from .columns import Node
+from .cut import Cut
 from .errors import FlowIsNotGreatest
 from .session.base import FilePath, import_package
 from .session_holder import SessionHolder, exclusive
-from .solution import Cut, Solution
+from .solution import Solution
 from .text.lexical import MOST_DRAWN
 
 if TYPE_CHECKING:

@@ -1,20 +1,20 @@
-"""The answers of a session about a network: solutions and cuts."""
+"""The answers of a session about the flow in a network."""
 
 from __future__ import annotations
 
 from array import array
-from collections.abc import Callable, Hashable, ItemsView, Iterator, Mapping, Sequence, ValuesView
-from typing import TYPE_CHECKING, Any, Generic, TypeVar, overload
+from collections.abc import Callable, Hashable, ItemsView, Iterator, Mapping, ValuesView
+from typing import Any, Generic, TypeVar, overload
 
 from . import arrays
 from .arcs import Arc, OpenArcs
 from .columns import Node
+
+# Programs may import it from here, as they did in version 0.1.0.
+from .cut import Cut as Cut  # noqa: F401
 from .errors import NoSuchArc, SessionEnded
 from .session.base import Told
 from .session.column_texts import flow_array, read_flows
-
-if TYPE_CHECKING:
-    from .notebook import Look
 
 Other = TypeVar("Other")
 
@@ -336,76 +336,3 @@ class Solution(Mapping[Arc[Node], int], Generic[Node]):
     def _rows(self) -> Iterator[tuple[object, ...]]:
         for arc, flow in self.items():
             yield arc.number if arc.given_key is None else arc.given_key, arc.tail, arc.head, flow
-
-
-class Cut(Generic[Node]):
-    """The minimum cut with the fewest nodes on the source's side.
-
-    Two cuts are equal if their capacities, sides and arcs are equal. A notebook shows a cut as a
-    picture if Graphviz is installed and the network is small, and otherwise as a table.
-
-    Attributes
-    ----------
-    capacity
-        The sum of the capacities of `arcs`.
-    side
-        The nodes that every minimum cut has on the source's side.
-    other_side
-        All other nodes.
-    arcs
-        The open arcs that lead from `side` to `other_side`, in order.
-    """
-
-    __module__ = __package__
-
-    def __init__(
-        self,
-        capacity: int,
-        side: frozenset[Node],
-        arcs: tuple[Arc[Node], ...],
-        nodes: Sequence[Node] = (),
-        look: Callable[[], Look] | None = None,
-    ) -> None:
-        self.capacity = capacity
-        self.side = side
-        self.arcs = arcs
-        self._nodes = nodes
-        self._look = look
-
-    @property
-    def other_side(self) -> frozenset[Node]:
-        """Return the nodes on the side of the sink.
-
-        Examples
-        --------
-        >>> network = Network([("a", "b", 3), ("b", "c", 2)], "a", "c")
-        >>> value = network.solve().value
-        >>> network.cut().other_side
-        frozenset({'c'})
-        """
-        return frozenset(node for node in self._nodes if node not in self.side)
-
-    def __eq__(self, other: object) -> bool:
-        if not isinstance(other, Cut):
-            return NotImplemented
-        return (self.capacity, self.side, self.arcs) == (other.capacity, other.side, other.arcs)
-
-    def __hash__(self) -> int:
-        return hash((self.capacity, self.side))
-
-    def __repr__(self) -> str:
-        return f"Cut(capacity={self.capacity!r}, side={self.side!r}, arcs={self.arcs!r})"
-
-    def _repr_svg_(self) -> str | None:
-        return self._look().svg() if self._look else None
-
-    def _repr_html_(self) -> str:
-        from .notebook import table
-
-        rows = (
-            (arc.number if arc.given_key is None else arc.given_key, arc.tail, arc.head)
-            for arc in self.arcs
-        )
-        return table(
-            f"cut of capacity {self.capacity}", ("arc", "tail", "head"), len(self.arcs), rows
-        )

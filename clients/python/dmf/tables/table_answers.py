@@ -11,9 +11,9 @@ from typing import Any, Optional, cast
 
 from ..arcs import Arc
 from ..columns import Columns
+from ..cut import Cut
 from ..quantity import LARGEST, Measure
 from ..scaled_solution import ScaledSolution
-from ..solution import Cut
 from ..text.table_comments import SUPPLY, Role, TableComments
 from .arcs_and_places import Term
 
