@@ -8,113 +8,68 @@ back. Pumps lead one way, and have no limit.
 
 from __future__ import annotations
 
-import re
-from collections.abc import Iterator, Mapping, Sequence
-from dataclasses import dataclass, field
+from collections.abc import Iterator, Sequence
 from decimal import Decimal
 from functools import partial
 from typing import Optional
 
 from ..errors import TableFault
 from ..quantity import plain_text
-from ..text.spelling import MOST_TOLD, near, quoted_name
-from .epanet_sections import NAMES, TIMED, Line, sections_of
-from .pipe_capacity import FLOW_UNITS, FlowUnit, capacity_of
+from ..text.spelling import MOST_TOLD, quoted_name
+from .epanet_network import ONE_WAY_VALVES, EpanetNetwork
+from .epanet_sections import NAMES, TIMED, sections_of
+from .pipe_capacity import capacity_of
 from .setting_question import SettingQuestion, velocity_question
-from .sheet import Exact, Faults, Positions, Rows, Sheet, cell_of
+from .sheet import Exact, Faults, Rows, Sheet, cell_of
 from .table_file import Content, TableFile
 from .text_bytes import text_of
 
-# Valves that let nothing back.
-ONE_WAY_VALVES = {"PRV", "PSV", "FCV"}
 _ONE_WAY = ", ".join(sorted(ONE_WAY_VALVES))
-VALVES = ONE_WAY_VALVES | {"PBV", "TCV", "GPV", "PCV"}
-OPEN, CLOSED, CHECK = "OPEN", "CLOSED", "CV"
 ARC_TITLES = ["from", "to", "capacity", "name", "status", "direction", "kind", "length", "diameter"]
 PLACE_TITLES = ["place", "supply", "demand"]
 UNLIMITED = "unlimited"
 _TANKS = {"source": "supply without a limit", "none": "only let water through"}
-_NUMBER = re.compile(r"[+-]?(?:[0-9]+\.?[0-9]*|\.[0-9]+)(?:[eE][+-]?[0-9]{1,3})?")
-
-
-@dataclass
-class Link:
-    """A pipe, a pump or a valve."""
-
-    line: int
-    name: str
-    ends: tuple[str, str]
-    kind: str
-    length: Optional[Decimal] = None
-    diameter: Optional[Decimal] = None
-    status: str = OPEN
-    # The most that a flow control valve lets through.
-    most: Optional[Decimal] = None
-
-    @property
-    def is_one_way(self) -> bool:
-        """Return True if nothing flows back."""
-        return self.kind == "pump" or self.status == CHECK or self.kind in ONE_WAY_VALVES
-
-
-@dataclass
-class Nodes:
-    """The nodes by their names, each with its line: what they are, and the demands of junctions."""
-
-    kinds: dict[str, str] = field(default_factory=dict)
-    lines: dict[str, int] = field(default_factory=dict)
-    demands: dict[str, Decimal] = field(default_factory=dict)
-
-    def of_kind(self, kind: str) -> list[str]:
-        """Return the names of the nodes of a kind."""
-        return [name for name, it in self.kinds.items() if it == kind]
 
 
 def sheets_of(file: TableFile) -> list[Sheet]:
     """Return the arcs and the places of a network of EPANET. Raises a `TableFault`, and a
     `SettingQuestion` for a velocity or the part of tanks that was not given."""
-    text, notes = text_of(file.data, file.encoding)
-    return _Network(file, sections_of(text, Faults(file.path)), notes).sheets()
+    network = _network(file)
+    network.read()
+    return _Sheets(file, network).sheets()
 
 
 def contents_of(file: TableFile, sheets: Sequence[Sheet], arcs: Optional[Sheet]) -> list[Content]:
     """Return the sections of a network of EPANET that are read, each with the number of its lines
     and what these are read for; nothing if they have a fault."""
     try:
-        text, notes = text_of(file.data, file.encoding)
-        return _Network(file, sections_of(text, Faults(file.path)), notes).contents()
+        return _Sheets(file, _network(file)).contents()
     except TableFault:
         return []
 
 
-class _Network:
-    """A reader that turns the sections into links and nodes, and these into sheets."""
+def _network(file: TableFile) -> EpanetNetwork:
+    text, notes = text_of(file.data, file.encoding)
+    faults = Faults(file.path)
+    return EpanetNetwork(sections_of(text, faults), faults, notes)
 
-    def __init__(
-        self, file: TableFile, sections: Mapping[str, list[Line]], notes: Sequence[str]
-    ) -> None:
+
+class _Sheets:
+    """The rows of arcs and of places that are made of a network."""
+
+    def __init__(self, file: TableFile, network: EpanetNetwork) -> None:
         self.file = file
-        self.sections = sections
-        self.faults = Faults(file.path)
-        self.nodes = Nodes()
-        self.links: dict[str, Link] = {}
-        self.notes = [*notes]
-        self.unit, self.multiplier = self._options()
+        self.network = network
+        self.notes = network.notes
 
     def sheets(self) -> list[Sheet]:
-        self._read_nodes()
-        self._read_links()
-        self._read_status()
-        positions = self._positions()
-        self.faults.judge()
-        if not self.links:
-            raise TableFault("the network has no pipe: the section [PIPES] is missing or empty")
+        """Return the sheets, once the network is read."""
         self._tell_what_was_taken()
         arcs = self._arc_rows(self._velocity())
         places = self._place_rows()
         path = self.file.path
         found = [
-            Sheet(path, partial(_read, arcs), tuple(self.notes), self._taken(), positions),
+            Sheet(path, partial(_read, arcs), tuple(self.notes), self._taken(), self.network.positions),
         ]
         if len(places) > 1:
             found.append(Sheet(path, partial(_read, places), gives_way=True))
@@ -122,7 +77,7 @@ class _Network:
 
     def contents(self) -> list[Content]:
         """Return the sections that have lines, and what these are read for."""
-        reading, unit = self.file.reading, self.unit
+        reading, unit = self.file.reading, self.network.unit
         velocity = reading.velocity
         at = f"{plain_text(velocity)} m/s" if velocity else "the velocity that --velocity gives"
         capacity = f"capacity in {unit.name}, from the diameter ({unit.diameters}) at {at}"
@@ -138,205 +93,22 @@ class _Network:
             "COOR": "where places lie in the picture",
             **dict.fromkeys(TIMED, "open and close links in time, and are left out"),
         }
-        found = [(name, len(self._lines(name)), what) for name, what in said.items()]
+        found = [(name, len(self.network.lines(name)), what) for name, what in said.items()]
         return [Content(NAMES[name], count, what) for name, count, what in found if count]
-
-    def _lines(self, name: str) -> list[Line]:
-        return self.sections.get(name, [])
-
-    # What numbers are.
-
-    def _options(self) -> tuple[FlowUnit, Decimal]:
-        """Return the unit of flows, and what demands are multiplied by."""
-        unit, multiplier = "", Decimal(1)
-        for line in self._lines("OPTI"):
-            upper = [word.upper() for word in line.words]
-            if upper[0] == "UNITS" and upper[1:]:
-                unit = upper[1]
-                if unit not in FLOW_UNITS:
-                    known = ", ".join(FLOW_UNITS)
-                    reason = f"{quoted_name(line.words[1])} is not a unit of EPANET, which are"
-                    self.faults.add(f"{reason} {known}", line.number)
-            if upper[:2] == ["DEMAND", "MULTIPLIER"]:
-                multiplier = self._number(line, 2, "a demand multiplier") or Decimal(1)
-        self.faults.judge()
-        if not unit:
-            self.notes.append("[OPTIONS] names no UNITS, which EPANET reads as GPM")
-        if multiplier != 1:
-            told = plain_text(multiplier)
-            self.notes.append(f"demands are multiplied by {told}, as [OPTIONS] says")
-        return FLOW_UNITS[unit or "GPM"], multiplier
 
     def _velocity(self) -> Optional[Decimal]:
         """Return the velocity of the water; none if no link has a diameter. Raises a
         `SettingQuestion`."""
         velocity = self.file.reading.velocity
-        if velocity is None and any(link.diameter for link in self.links.values()):
-            raise velocity_question(self.unit.name)
+        if velocity is None and any(link.diameter for link in self.network.links.values()):
+            raise velocity_question(self.network.unit.name)
         return velocity
 
-    def _number(self, line: Line, at: int, what: str) -> Optional[Decimal]:
-        """Return the number that stands at a place of a line; a fault if there is none."""
-        word = line.words[at] if at < len(line.words) else ""
-        if _NUMBER.fullmatch(word):
-            return Decimal(word)
-        told = f"{quoted_name(word)} is not {what}" if word else f"{what} is missing"
-        self.faults.add(told, line.number)
-        return None
-
-    def _has_words(self, line: Line, least: int, form: str) -> bool:
-        """Return True if a line has at least `least` words; otherwise note the fault."""
-        if len(line.words) < least:
-            count = len(line.words)
-            self.faults.add(f"{count} of the {least} fields that are needed: {form}", line.number)
-        return len(line.words) >= least
-
-    # Nodes.
-
-    def _read_nodes(self) -> None:
-        for name, kind, form in (
-            ("JUNC", "junction", "name, elevation"),
-            ("RESE", "reservoir", "name, head"),
-            ("TANK", "tank", "name, elevation"),
-        ):
-            for line in self._lines(name):
-                if self._has_words(line, 1 if kind == "junction" else 2, form):
-                    self._add_node(line, kind)
-        of_section: dict[str, list[Decimal]] = {}
-        for line in self._lines("DEMA"):
-            if line.words[0].upper() == "MULTIPLY":
-                self.faults.add(
-                    "MULTIPLY is of EPANET 1; write the demands themselves", line.number
-                )
-            elif self._is_node(line, 0, "demand"):
-                demand = self._number(line, 1, "a demand")
-                of_section.setdefault(line.words[0], []).append(demand or Decimal(0))
-        # The section of demands stands in place of the demand in the line of a junction.
-        self.nodes.demands |= {
-            name: sum(demands, Decimal(0)) for name, demands in of_section.items()
-        }
-
-    def _add_node(self, line: Line, kind: str) -> None:
-        name = line.words[0]
-        if name in self.nodes.kinds:
-            first = f"{self.nodes.kinds[name]} in line {self.nodes.lines[name]}"
-            self.faults.add(f"{quoted_name(name)} is the name of a {first} too", line.number)
-            return
-        self.nodes.kinds[name], self.nodes.lines[name] = kind, line.number
-        if kind == "junction" and len(line.words) > 2:
-            self.nodes.demands[name] = self._number(line, 2, "a demand") or Decimal(0)
-
-    def _is_node(self, line: Line, at: int, what: str) -> bool:
-        name = line.words[at]
-        if name in self.nodes.kinds:
-            return True
-        hint = near(name, self.nodes.kinds)
-        told = f"{quoted_name(name)}, where a {what} is, is not a node of the file{hint}"
-        self.faults.add(told, line.number)
-        return False
-
-    # Links.
-
-    def _read_links(self) -> None:
-        for line in self._lines("PIPE"):
-            if self._has_words(line, 5, "name, two nodes, length, diameter"):
-                self._add_link(line, self._pipe(line))
-        for line in self._lines("PUMP"):
-            if self._has_words(line, 3, "name, two nodes"):
-                self._add_link(line, self._link(line, "pump"))
-        for line in self._lines("VALV"):
-            if self._has_words(line, 5, "name, two nodes, diameter, type"):
-                self._add_link(line, self._valve(line))
-
-    def _link(self, line: Line, kind: str) -> Link:
-        return Link(line.number, line.words[0], (line.words[1], line.words[2]), kind)
-
-    def _add_link(self, line: Line, link: Link) -> None:
-        if other := self.links.get(link.name):
-            told = f"{quoted_name(link.name)} is the name of the {other.kind} in line {other.line}"
-            self.faults.add(f"{told} too", line.number)
-            return
-        is_known = [self._is_node(line, at, f"{link.kind}'s end") for at in (1, 2)]
-        if all(is_known) and line.words[1] == line.words[2]:
-            self.faults.add(f"the {link.kind} begins and ends at one node", line.number)
-        self.links[link.name] = link
-
-    def _diameter(self, line: Line, at: int) -> Optional[Decimal]:
-        diameter = self._number(line, at, "a diameter")
-        if diameter is not None and diameter < 0:
-            self.faults.add(f"the diameter {quoted_name(line.words[at])} is below 0", line.number)
-        return diameter or None
-
-    def _pipe(self, line: Line) -> Link:
-        pipe = self._link(line, "pipe")
-        pipe.length = self._number(line, 3, "a length")
-        before = self.faults.count
-        pipe.diameter = self._diameter(line, 4)
-        if pipe.diameter is None and self.faults.count == before:
-            self.faults.add("the pipe has the diameter 0", line.number)
-        # The status is the eighth field, or the seventh if there is no loss coefficient.
-        for word in line.words[6:8]:
-            if word.upper() in (OPEN, CLOSED, CHECK):
-                pipe.status = word.upper()
-            elif not _NUMBER.fullmatch(word):
-                told = f"{quoted_name(word)} is not a status, which is OPEN, CLOSED or CV"
-                self.faults.add(told, line.number)
-        return pipe
-
-    def _valve(self, line: Line) -> Link:
-        kind = line.words[4].upper()
-        valve = self._link(line, kind)
-        valve.diameter = self._diameter(line, 3)
-        if kind not in VALVES:
-            known = ", ".join(sorted(VALVES))
-            told = f"{quoted_name(line.words[4])} is not a type of valve, which are {known}"
-            self.faults.add(told, line.number)
-        if kind == "FCV":
-            valve.most = self._number(line, 5, "a flow")
-        return valve
-
-    def _read_status(self) -> None:
-        """Read the section of states: a number is the speed of a pump or the setting of a valve."""
-        for line in self._lines("STAT"):
-            if not self._has_words(line, 2, "name, status"):
-                continue
-            name, word = line.words[0], line.words[1].upper()
-            link = self.links.get(name)
-            if link is None:
-                hint = near(name, self.links)
-                self.faults.add(f"{quoted_name(name)} is not a link of the file{hint}", line.number)
-            elif word in (OPEN, CLOSED) and link.status != CHECK:
-                link.status = word
-                link.most = link.most if word == CLOSED else None
-            elif link.status == CHECK:
-                self.faults.add("a check valve has no other status", line.number)
-            elif (
-                number := self._number(line, 1, "a status: OPEN, CLOSED or a number")
-            ) is not None:
-                self._set(link, number)
-
-    @staticmethod
-    def _set(link: Link, setting: Decimal) -> None:
-        link.status = CLOSED if link.kind == "pump" and setting == 0 else OPEN
-        if link.kind == "FCV":
-            link.most = setting
-
-    def _positions(self) -> Optional[Positions]:
-        spots: dict[str, tuple[float, float]] = {}
-        for line in self._lines("COOR"):
-            if self._has_words(line, 3, "node, x, y") and self._is_node(line, 0, "coordinate"):
-                x, y = (self._number(line, at, "a coordinate") for at in (1, 2))
-                if x is not None and y is not None:
-                    spots[line.words[0]] = float(x), float(y)
-        return Positions(spots) if spots else None
-
-    # Sheets.
-
     def _arc_rows(self, velocity: Optional[Decimal]) -> list[tuple[int, list[str]]]:
-        titles = [f"{it} [{self.unit.name}]" if it == "capacity" else it for it in ARC_TITLES]
+        titles = [f"{it} [{self.network.unit.name}]" if it == "capacity" else it for it in ARC_TITLES]
         rows = [(1, titles)]
-        for link in sorted(self.links.values(), key=lambda link: link.line):
-            number = capacity_of(link.diameter, velocity, self.unit)
+        for link in sorted(self.network.links.values(), key=lambda link: link.line):
+            number = capacity_of(link.diameter, velocity, self.network.unit)
             if link.most is not None:
                 number = link.most if number is None else min(number, link.most)
             capacity = UNLIMITED if number is None else Exact(plain_text(number))
@@ -355,54 +127,54 @@ class _Network:
         return cell_of(name, is_raw=self.file.reading.raw_names)
 
     def _place_rows(self) -> list[tuple[int, list[str]]]:
-        tanks = self.nodes.of_kind("tank")
+        tanks = self.network.nodes.of_kind("tank")
         if tanks and not self.file.reading.tanks:
             reason = f"what are the tanks ({_listed(tanks)})? A tank gives water and takes it in"
             raise SettingQuestion(reason, "tanks")
         rows = [(1, PLACE_TITLES)]
-        for name, kind in self.nodes.kinds.items():
-            demand = self.nodes.demands.get(name, Decimal(0)) * self.multiplier
+        for name, kind in self.network.nodes.kinds.items():
+            demand = self.network.nodes.demands.get(name, Decimal(0)) * self.network.multiplier
             amount = Exact(plain_text(abs(demand)))
             gives = kind == "reservoir" or kind == "tank" and self.file.reading.tanks == "source"
             if gives or demand:
                 supply = "x" if gives else amount if demand < 0 else ""
                 cells = [self._cell(name), supply, amount if demand > 0 else ""]
-                rows.append((self.nodes.lines[name], cells))
+                rows.append((self.network.nodes.lines[name], cells))
         return rows
 
     def _taken(self) -> str:
-        kinds = [link.kind for link in self.links.values()]
+        kinds = [link.kind for link in self.network.links.values()]
         counts = [("pipe", kinds.count("pipe")), ("pump", kinds.count("pump"))]
         counts.append(("valve", len(kinds) - sum(count for _, count in counts)))
         told = ", ".join(f"{count} {it}{'s' * (count != 1)}" for it, count in counts if count)
         velocity = self.file.reading.velocity
-        how = f"capacity (in {self.unit.name}, to {self.unit.decimals} decimals)"
+        how = f"capacity (in {self.network.unit.name}, to {self.network.unit.decimals} decimals)"
         if velocity is None:
             return f"a network of EPANET: {told}"
         return (
-            f"a network of EPANET: {told}; {how} from the diameter ({self.unit.diameters}) at"
+            f"a network of EPANET: {told}; {how} from the diameter ({self.network.unit.diameters}) at"
             f" {plain_text(velocity)} m/s"
         )
 
     def _tell_what_was_taken(self) -> None:
         gives = self.file.reading.tanks == "source"
         tanks = "tanks supply without a limit" if gives else "tanks only let water through"
-        pumps = [link.name for link in self.links.values() if link.kind == "pump"]
+        pumps = [link.name for link in self.network.links.values() if link.kind == "pump"]
         for told, names in (
-            ("reservoirs supply without a limit", self.nodes.of_kind("reservoir")),
-            (tanks, self.nodes.of_kind("tank")),
+            ("reservoirs supply without a limit", self.network.nodes.of_kind("reservoir")),
+            (tanks, self.network.nodes.of_kind("tank")),
             ("pumps lead one way, without a limit", pumps),
         ):
             if names:
                 self.notes.append(f"{told}: {_listed(names)}")
-        patterned = [line for line in self._lines("JUNC") if len(line.words) > 3]
-        patterned += [line for line in self._lines("DEMA") if len(line.words) > 2]
-        if patterned or self._lines("PATT"):
+        patterned = [line for line in self.network.lines("JUNC") if len(line.words) > 3]
+        patterned += [line for line in self.network.lines("DEMA") if len(line.words) > 2]
+        if patterned or self.network.lines("PATT"):
             self.notes.append("demands are base demands; patterns are left out")
         for name, told in TIMED.items():
-            if self._lines(name):
+            if self.network.lines(name):
                 self.notes.append(f"{told} open and close links in time, and are left out")
-        if "END" not in self.sections:
+        if "END" not in self.network.sections:
             self.notes.append("the file has no [END]; is it whole?")
 
 
