@@ -9,17 +9,13 @@ from collections.abc import Collection, Mapping, Sequence
 from ..errors import TableFault
 from ..quantity import readings
 from ..text.spelling import cleaned, quoted_name
-from .column_question import ColumnQuestion
-from .column_samples import ColumnSample
+from .column_candidates import ColumnCandidates
 from .headings import (
     ARCS,
     CHOSEN,
     IN_ORDER,
-    MOST_LISTED,
     NAMED,
     ONLY,
-    PLACE_COLUMNS,
-    STATES,
     Form,
     Layout,
     called,
@@ -28,36 +24,22 @@ from .headings import (
 )
 from .sheet import Rows
 from .state_words import state_of
-from .title_row import TitleRow, column_number, heading_at, named_row, title_row, usual_words
+from .title_row import TitleRow, heading_at, named_row, title_row
+from .titled_columns import columns_by_title
 from .titles import (
     CAPACITY,
     DIRECTION,
-    HEAD,
-    LIMIT,
     NAME,
     OTHERS,
     STATUS,
-    TAIL,
     USUAL,
-    WEAK,
     hints_at_state,
     is_least,
     is_other,
-    is_rate,
-    is_share,
     names_total,
     paired,
-    rivals_capacity,
     says_capacity,
-    says_end,
-    says_state,
 )
-
-# What a question asks for, and how the line that tells what was taken calls a column.
-_SOUGHT = {
-    TAIL: "has the places where rows begin (from)",
-    HEAD: "has the places where rows end (to)",
-}
 
 
 def layout_of(
@@ -75,41 +57,17 @@ def layout_of(
     return _Finder(form, TitleRow((), 0, 0, sample.cells), named, ignored).layout_without_titles()
 
 
-class _Finder:
+class _Finder(ColumnCandidates):
     """Finds the columns of a table with these titles, or with none."""
 
     def __init__(
         self, form: Form, heading: TitleRow, named: Mapping[str, str], ignored: Collection[str]
     ) -> None:
-        self.form = form
-        self.titles = heading.titles
-        self.heading = heading
-        rows = heading.rows or ([heading.cells] if heading.cells else [])
-        self.sample = ColumnSample(rows, heading.titles)
-        self.width = self.sample.width
-        self.given = {column: self._place_of(title) for column, title in named.items()}
-        self.ignored = [self._place_of(title) for title in ignored] if form is ARCS else []
+        super().__init__(form, heading, named, ignored)
         self.is_by_numbers = False
         # The columns that titles name, and those that were taken by where they stand.
         self.by_title: set[str] = set()
         self.by_order: set[str] = set()
-
-    def _place_of(self, title: str) -> int:
-        """Return the column that is called by this title, or by its number. Raises a `TableFault`
-        if none is, or two are."""
-        texts = [title.text for title in self.titles]
-        wanted = cleaned(title)
-        if texts.count(wanted) == 1:
-            return texts.index(wanted)
-        if wanted not in texts and 0 < column_number(wanted) <= self.width:
-            return column_number(wanted) - 1
-        if column_number(wanted) and wanted not in texts:
-            reason = f"there is no {wanted}: the table has {self.width} columns"
-            raise TableFault(reason, self.heading.line)
-        which = "two columns have" if wanted in texts else "no column has"
-        listed = ", ".join(quoted_name(text) for text in texts[:MOST_LISTED])
-        reason = f"{which} the title {quoted_name(title)}; the titles are {listed}"
-        raise TableFault(reason, self.heading.line)
 
     def begins_with_titles(self) -> bool:
         """Return True if the first row has titles. They are usual ones; or in the column of the
@@ -117,7 +75,7 @@ class _Finder:
         first = self.heading.cells
         if len(self.heading.rows) and self._has_number_above(first):
             return False
-        at = self._titled()
+        at = columns_by_title(self)
         pair = paired(self.titles)
         # The letters A and B may as well be places.
         is_told = pair is None or bool(self.titles[pair[0]].words[1:])
@@ -143,7 +101,7 @@ class _Finder:
         """Return where all columns are. Raises a `ColumnQuestion` if one cannot be settled, since
         two can be meant."""
         form = self.form
-        at = self._titled()
+        at = columns_by_title(self)
         self.by_title.update(at)
         if not at.keys() & {*form.amounts}:
             at[form.amounts[0]] = self._amount(at)
@@ -202,109 +160,12 @@ class _Finder:
             return NAMED
         return IN_ORDER if column in self.by_order else ONLY
 
-    def _titled(self) -> dict[str, int]:
-        """Return the columns that were given, and those that titles tell."""
-        form, at = self.form, dict(self.given)
-        is_given = form is ARCS and at.keys() >= {*form.places, *form.amounts}
-        for role in form.places:
-            self._add_titled_end(at, role)
-        if form is ARCS and not at.keys() & {*form.places} and (pair := paired(self.titles)):
-            at.update(zip(form.places, pair))
-        for role in STATES if form is ARCS else ():
-            self._add_state(at, role)
-        if form is ARCS:
-            at.update(
-                () if CAPACITY in at else [(CAPACITY, place) for place in self._titled_amount(at)]
-            )
-        else:
-            self._add_usual(at, form.amounts)
-        self._add_usual(at, () if is_given or not form.label else [form.label])
-        self._add_usual(at, PLACE_COLUMNS if form is ARCS else ())
-        return at
-
-    def _free(self, at: Mapping[str, int]) -> list[int]:
-        """Return the columns that may still be taken for something."""
-        return [
-            place
-            for place in range(self.width)
-            if place not in at.values() and place not in self.ignored
-        ]
-
-    def _add_usual(self, at: dict[str, int], columns: Collection[str]) -> None:
-        """Add these columns, if usual titles tell them. Of two titles for one the one is taken that
-        is preferred."""
-        for column in columns:
-            words = usual_words(self.titles, column)
-            ranks = sorted(
-                (words.index(word), place)
-                for place in self._free(at)
-                if (word := self.sample.title(place).word) in words
-            )
-            if column not in at and ranks:
-                at[column] = ranks[0][1]
-
-    def _add_titled_end(self, at: dict[str, int], role: str) -> None:
-        """Add the column of an end of rows, if a title says it. Raises a `ColumnQuestion` if two
-        do."""
-        self._add_usual(at, [role])
-        if role in at or self.form is not ARCS:
-            return
-        found = [place for place in self._free(at) if says_end(self.sample.title(place), role)]
-        if len(found) > 1:
-            raise self._question(role, found, "more than one title says it")
-        at.update((role, place) for place in found)
-
-    def _add_state(self, at: dict[str, int], role: str) -> None:
-        found = [place for place in self._free(at) if says_state(self.sample.title(place), role)]
-        if len(found) > 1:
-            says = "which rows are open" if role == STATUS else "which way rows lead"
-            names = " and ".join(called(self.titles, place) for place in found)
-            reason = (
-                f"{names} both say {says}; give one of them to --ignore, and it is kept as a remark"
-            )
-            raise TableFault(reason, self.heading.line)
-        at.update((role, place) for place in found)
-
-    def _titled_amount(self, at: Mapping[str, int]) -> list[int]:
-        """Return the column of capacities, if titles tell it. Raises a `ColumnQuestion` if more
-        than one does."""
-        free = self._free(at)
-        usual = [
-            place
-            for place in free
-            if (
-                self.sample.title(place).word in USUAL[CAPACITY]
-                or is_rate(self.sample.title(place))
-            )
-            and not is_share(self.sample.title(place))
-        ]
-        sure = [place for place in free if says_capacity(self.sample.title(place))]
-        # In a table of arcs a limit may be that of a place, and a weight the length of an arc.
-        likely = [place for place in usual if self.sample.title(place).word not in WEAK]
-        likely = [
-            place for place in likely if self.sample.title(place).word not in USUAL[LIMIT][:3]
-        ] or likely
-        weak = [place for place in usual if self.sample.title(place).word in WEAK]
-        if not sure and not likely and {*self._numeric(at)} <= {*weak}:
-            likely = weak
-        if len(sure) == 1:
-            sure += [
-                place
-                for place in self._numeric({**at, CAPACITY: sure[0]})
-                if rivals_capacity(self.sample.title(place))
-            ]
-        found = sure or likely
-        found = [place for place in found if self.sample.has_number(place)] or found
-        if len(found) > 1:
-            raise self._question(CAPACITY, found, "more than one title says it")
-        return found
-
     def _amount(self, at: Mapping[str, int]) -> int:
         """Return the column of amounts, if no title tells it: the only one with numbers. Raises a
         `ColumnQuestion`."""
         amount = self.form.amounts[0]
-        numeric = self._numeric(at)
-        free = [place for place in self._free(at) if self.sample.title(place).word not in OTHERS]
+        numeric = self.numeric(at)
+        free = [place for place in self.free(at) if self.sample.title(place).word not in OTHERS]
         usual = self.form.order[amount]
         if len(numeric) == 1 and not is_other(self.sample.title(numeric[0])):
             self.is_by_numbers = True
@@ -317,7 +178,7 @@ class _Finder:
             if len(numeric) > 1
             else "no title says it"
         )
-        raise self._question(amount, numeric or free or self._free(at), why)
+        raise self.question(amount, numeric or free or self.free(at), why)
 
     def _judge_states(self, at: Mapping[str, int]) -> None:
         """Raise a `TableFault` if a column whose title does not say it seems to say which rows are
@@ -348,7 +209,7 @@ class _Finder:
         numbers, or those at their usual places. Raises a `ColumnQuestion`."""
         form = self.form
         missing = [column for column in form.places if column not in at]
-        free = self._free(at)
+        free = self.free(at)
         texts = [
             place
             for place in free
@@ -367,7 +228,7 @@ class _Finder:
             at.update((column, form.order[column]) for column in missing)
             self.by_order.update(missing)
         elif missing:
-            raise self._question(missing[0], texts or free, "no title says it")
+            raise self.question(missing[0], texts or free, "no title says it")
 
     def _has_label(self, at: Mapping[str, int]) -> bool:
         """Return True if the column where names usually stand has names, although its title does
@@ -375,7 +236,7 @@ class _Finder:
         form = self.form
         place = form.order[form.label]
         title = self.sample.title(place)
-        if place not in self._free(at) or any(
+        if place not in self.free(at) or any(
             at.get(column, usual) != usual for column, usual in form.order.items()
         ):
             return False
@@ -398,7 +259,7 @@ class _Finder:
         if (
             not is_given
             and form.label not in at
-            and label in self._free(at)
+            and label in self.free(at)
             and all(at[column] == form.order[column] for column in form.places)
         ):
             at[form.label] = label
@@ -411,7 +272,7 @@ class _Finder:
         `ColumnQuestion`."""
         form = self.form
         usual = form.order[form.amounts[0]]
-        numeric = self._numeric(self.given)
+        numeric = self.numeric(self.given)
         if not numeric or numeric == [*range(usual + 1)]:
             return usual
         return self._amount(self.given)
@@ -428,43 +289,8 @@ class _Finder:
                 and texts.count(texts[place]) > 1
             ):
                 alike = [other for other, text in enumerate(texts) if text == texts[place]]
-                raise self._question(
+                raise self.question(
                     column,
                     alike,
                     f"{len(alike)} columns have the title {quoted_name(texts[place])}",
                 )
-
-    def _numeric(self, at: Mapping[str, int]) -> list[int]:
-        """Return the columns with numbers that may still be taken for something, but counters of
-        rows and percentages."""
-        return [
-            place
-            for place in self._free(at)
-            if not self.sample.is_text(place)
-            and not is_share(self.sample.title(place))
-            and not self.sample.counts_rows(place)
-        ]
-
-    def _question(self, column: str, places: Sequence[int], why: str) -> ColumnQuestion:
-        is_arcs = self.form is ARCS
-        sought = _SOUGHT.get(column, f"is the {column}")
-        title = USUAL[column][0]
-        if not is_arcs:
-            how = f"give it the title {title!r}, and the others none like it"
-        elif self.titles:
-            how = f"name it by --{column}, or give it the title {title!r}"
-        else:
-            how = f"name it by --{column}"
-        reason = f"which column {sought}? {why[:1].upper()}{why[1:]}; {how}"
-        choices = [
-            (name_of_column(self.titles, place), self.sample.cells(place)) for place in places
-        ]
-        question = ColumnQuestion(reason, self.heading.line, column, choices, is_arcs)
-        numeric = [place for place in range(self.width) if not self.sample.is_text(place)]
-        question.may_be_matrix = (
-            column == CAPACITY
-            and bool(self.titles)
-            and 1 < self.width - 1 == len(numeric)
-            and 0 not in numeric
-        )
-        return question

@@ -67,9 +67,9 @@ class _Sheets:
         self._tell_what_was_taken()
         arcs = self._arc_rows(self._velocity())
         places = self._place_rows()
-        path = self.file.path
+        path, positions = self.file.path, self.network.positions
         found = [
-            Sheet(path, partial(_read, arcs), tuple(self.notes), self._taken(), self.network.positions),
+            Sheet(path, partial(_read, arcs), tuple(self.notes), self._taken(), positions),
         ]
         if len(places) > 1:
             found.append(Sheet(path, partial(_read, places), gives_way=True))
@@ -105,10 +105,11 @@ class _Sheets:
         return velocity
 
     def _arc_rows(self, velocity: Optional[Decimal]) -> list[tuple[int, list[str]]]:
-        titles = [f"{it} [{self.network.unit.name}]" if it == "capacity" else it for it in ARC_TITLES]
+        unit = self.network.unit
+        titles = [f"{it} [{unit.name}]" if it == "capacity" else it for it in ARC_TITLES]
         rows = [(1, titles)]
         for link in sorted(self.network.links.values(), key=lambda link: link.line):
-            number = capacity_of(link.diameter, velocity, self.network.unit)
+            number = capacity_of(link.diameter, velocity, unit)
             if link.most is not None:
                 number = link.most if number is None else min(number, link.most)
             capacity = UNLIMITED if number is None else Exact(plain_text(number))
@@ -147,12 +148,12 @@ class _Sheets:
         counts = [("pipe", kinds.count("pipe")), ("pump", kinds.count("pump"))]
         counts.append(("valve", len(kinds) - sum(count for _, count in counts)))
         told = ", ".join(f"{count} {it}{'s' * (count != 1)}" for it, count in counts if count)
-        velocity = self.file.reading.velocity
-        how = f"capacity (in {self.network.unit.name}, to {self.network.unit.decimals} decimals)"
+        velocity, unit = self.file.reading.velocity, self.network.unit
+        how = f"capacity (in {unit.name}, to {unit.decimals} decimals)"
         if velocity is None:
             return f"a network of EPANET: {told}"
         return (
-            f"a network of EPANET: {told}; {how} from the diameter ({self.network.unit.diameters}) at"
+            f"a network of EPANET: {told}; {how} from the diameter ({unit.diameters}) at"
             f" {plain_text(velocity)} m/s"
         )
 
