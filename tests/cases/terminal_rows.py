@@ -1,112 +1,11 @@
-"""What the program is to say on a terminal: rows for tests/program/test_terminal.py, worked out by
-hand. The texts of problems are such as other programs and people write them."""
+"""What the program is to say on a terminal of problems, such as other programs and people write
+them: rows for tests/program/test_terminal.py, worked out by hand."""
 
-from dataclasses import dataclass
+from terminal_texts import ARCS, BOUNDS, HEAD, TEXT, problem, solved
 
-# What is said of a fault where the text cannot be read again, as from a pipe.
-PROBLEM_PIPED = {
-    "problem line expected": "a problem begins with p max NODES ARCS (tools/dmf-problem makes a "
-    "problem of a table)",
-    "second problem line": "a text has one problem: give each its own file",
-    "unknown line": "a line of a problem begins with c, p, n or a",
-    "not a max problem": "the problem line is p max NODES ARCS, in lower case",
-    "wrong number of fields": "the lines are p max NODES ARCS, n ID s, n ID t and a SRC DST CAP",
-    "not a number": "a number has digits alone: whole, without sign, from 0 to "
-    "18446744073709551615",
-    "number too large": "the largest number is 18446744073709551615",
-    "count out of range": "NODES is from 2 to 16777216, ARCS at most 134217728",
-    "no such node": "nodes are numbered from 1 to NODES of the problem line",
-    "neither source nor sink": "in a node line s names the source, t the sink",
-    "terminal named twice": "a second source or sink: join several by a node before or behind them "
-    "(docs/FORMATS.md)",
-    "source and sink are the same": "source and sink are two nodes",
-    "arc before source and sink": "put both n lines (n ID s and n ID t) before the first a line",
-    "too many arcs": "there are more a lines than ARCS of the problem line says",
-    "too few arcs": "there are fewer a lines than ARCS of the problem line says",
-    "source or sink missing": "a line n ID s names the source, and a line n ID t the sink",
-    "capacities past 64 bits": "the sum of all capacities passes 2^64 - 1 here: write a smaller "
-    'number for "no limit"',
-}
-SOLUTION_PIPED = {
-    "unknown line": "a line of a solution begins with c, s or f",
-    "wrong number of fields": "the lines are s VALUE and f SRC DST FLOW",
-    "not a number": PROBLEM_PIPED["not a number"],
-    "number too large": PROBLEM_PIPED["number too large"],
-    "no such arc": "the problem has no arc from SRC to DST",
-    "over capacity": "up to this line more flows than the arcs can carry from SRC to DST (their "
-    "capacities "
-    "together)",
-    "second value line": "a solution has one line s VALUE, and this is its second",
-    "value line missing": "the line s VALUE is missing: VALUE is what leaves the source",
-    "flow not conserved at node 2": "what enters node 2 and what leaves it differ, and it is "
-    "neither source nor sink",
-    "value differs": "the s line says another value than the f lines make: what leaves the source, "
-    "less what "
-    "enters it",
-}
-
-
-@dataclass(frozen=True)
-class Text:
-    """A text with its fixed fault (none, where it has none), what is said of it where it is a file,
-    from the line's number on, and the first line of its answer. What is said of it from a pipe is
-    its advice itself, if the same is said.
-    """
-
-    name: str
-    text: bytes
-    fault: str
-    advice: str
-    piped: dict[str, str]
-    first: str = ""
-
-    def said(self, place: str | None) -> str:
-        """The line that explains it: of a file by its name, with words before it; else by words
-        alone, if there are some."""
-        if not self.fault:
-            return ""
-        line, _, kind = self.fault.removeprefix("line ").partition(": ")
-        if place is None:
-            return f"line {line}: {self.piped[kind]}\n"
-        if place.endswith(", line"):
-            return f"{place} {line}: {self.piped[kind]}\n"
-        return f"{place}:{line}{self.advice or ': ' + self.piped[kind]}\n"
-
-
-def problem(name: str, text: bytes, fault: str, advice: str = "") -> Text:
-    """A problem with a fault; its advice is that of a pipe, where it is left out."""
-    return Text(name, text, fault, advice, PROBLEM_PIPED)
-
-
-def solved(name: str, text: bytes, first: str = "s 4") -> Text:
-    """A problem without a fault, and the first line of its solution."""
-    return Text(name, text, "", "", {}, first)
-
-
-def solution(name: str, text: bytes, fault: str, advice: str = "") -> Text:
-    return Text(name, text, fault, advice, SOLUTION_PIPED)
-
-
-HEAD = b"p max 3 2\nn 1 s\nn 3 t\n"
-ARCS = b"a 1 2 5\na 2 3 4\n"
-TEXT = HEAD + ARCS
-BOUNDS = "no whole number from 0 to 18446744073709551615"
 OTHER_PROBLEM = "dmf solves maximum flow, p max NODES ARCS"
 FIRSTS = "these begin with c, p, n or a"
-TABLE = "nodes go by number (tools/dmf-problem makes a problem of a table with names)"
-CAPACITY = "an arc has three numbers, from, to, capacity (a SRC DST CAP, 4 fields)"
-COMMENTED = (
-    "an arc has three numbers, from, to, capacity (4 fields), and a comment a line of its own"
-)
 ARC_COUNT = "its second number is the number of a lines"
-LARGEST = b"18446744073709551615"
-HALF = b"9223372036854775807"
-
-
-def capacity(text: bytes) -> bytes:
-    """The problem with this capacity of its first arc."""
-    return HEAD + b"a 1 2 " + text + b"\na 2 3 4\n"
-
 
 PROBLEMS = [
     solved("plain", TEXT),
@@ -146,12 +45,6 @@ PROBLEMS = [
     solved("cHello", b"cHello\n" + TEXT),
     solved("capacity foo", b"capacity foo\n" + TEXT),
     problem(
-        "a comment after an arc",
-        capacity(b"5 c main"),
-        "line 4: wrong number of fields",
-        f": {COMMENTED}; found 6 fields",
-    ),
-    problem(
         "# hello",
         b"# hello\n" + TEXT,
         "line 1: unknown line",
@@ -185,77 +78,6 @@ PROBLEMS = [
         ", field 3: 'S': lower case: s",
     ),
     problem(
-        "n s 1",
-        TEXT.replace(b"1 s", b"s 1"),
-        "line 2: not a number",
-        f", field 2: 's' is {BOUNDS}; the number stands before the letter, as in n 1 s",
-    ),
-    problem(
-        "inf",
-        capacity(b"inf"),
-        "line 4: not a number",
-        f", field 4: 'inf' is {BOUNDS}; there is no infinite capacity: write a large number",
-    ),
-    problem(
-        "-1",
-        capacity(b"-1"),
-        "line 4: not a number",
-        f", field 4: '-1' is {BOUNDS}; numbers have no sign (for no limit write a large number)",
-    ),
-    problem(
-        "1e9",
-        capacity(b"1e9"),
-        "line 4: not a number",
-        f", field 4: '1e9' is {BOUNDS}; write digits alone",
-    ),
-    problem(
-        "10.0",
-        capacity(b"10.0"),
-        "line 4: not a number",
-        f", field 4: '10.0' is {BOUNDS}; write digits alone",
-    ),
-    problem(
-        "+5",
-        capacity(b"+5"),
-        "line 4: not a number",
-        f", field 4: '+5' is {BOUNDS}; numbers have no sign (for no limit write a large number)",
-    ),
-    problem(
-        "1,000",
-        capacity(b"1,000"),
-        "line 4: not a number",
-        f", field 4: '1,000' is {BOUNDS}; write digits alone, without commas",
-    ),
-    problem("x", capacity(b"x"), "line 4: not a number", f", field 4: 'x' is {BOUNDS}"),
-    solved(
-        "two large capacities",
-        HEAD + b"a 1 2 " + HALF + b"\na 2 3 " + HALF + b"\n",
-        "s 9223372036854775807",
-    ),
-    problem(
-        "the largest number twice",
-        HEAD + b"a 1 2 " + LARGEST + b"\na 2 3 " + LARGEST + b"\n",
-        "line 5: capacities past 64 bits",
-    ),
-    problem(
-        "three large capacities",
-        HEAD.replace(b"3 2", b"3 3")
-        + b"a 1 2 "
-        + HALF
-        + b"\na 2 3 "
-        + HALF
-        + b"\na 1 3 "
-        + HALF
-        + b"\n",
-        "line 6: capacities past 64 bits",
-    ),
-    problem(
-        "nodes from 0 on",
-        b"p max 3 2\nn 0 s\nn 2 t\na 0 1 5\na 1 2 4\n",
-        "line 2: no such node",
-        ", field 2: '0' is no node: by the problem line they are numbered from 1 to 3",
-    ),
-    problem(
         "e",
         TEXT.replace(b"a ", b"e "),
         "line 4: unknown line",
@@ -280,18 +102,6 @@ PROBLEMS = [
         f", field 2: 'sp': {OTHER_PROBLEM}",
     ),
     problem(
-        "an arc with a cost",
-        capacity(b"0 5 1"),
-        "line 4: wrong number of fields",
-        f": {CAPACITY}; found 6 fields",
-    ),
-    problem(
-        "no capacity",
-        HEAD + b"a 1 2\na 2 3\n",
-        "line 4: wrong number of fields",
-        f": {CAPACITY}; found 3 fields",
-    ),
-    problem(
         "fewer arcs",
         HEAD + b"a 1 2 5\n",
         "line 5: too few arcs",
@@ -302,12 +112,6 @@ PROBLEMS = [
         TEXT + b"a 1 3 1\n",
         "line 6: too many arcs",
         f": the problem line says 2 arcs, and this line has one more: {ARC_COUNT}",
-    ),
-    problem(
-        "too few nodes",
-        TEXT.replace(b"3 2", b"2 2"),
-        "line 3: no such node",
-        ", field 2: '3' is no node: by the problem line they are numbered from 1 to 2",
     ),
     problem("no problem line", TEXT[10:], "line 1: problem line expected"),
     problem("nothing", b"", "line 1: problem line expected"),
@@ -379,40 +183,10 @@ PROBLEMS = [
     ),
     solved("a comment in Latin-1", b"c M\xfchle\n" + TEXT),
     problem(
-        "names of nodes",
-        b"p max 3 2\nn A s\nn C t\na A B 5\na B C 4\n",
-        "line 2: not a number",
-        f", field 2: 'A' is {BOUNDS}; {TABLE}",
-    ),
-    problem(
         "a solution",
         b"s 4\nf 1 2 4\n",
         "line 1: unknown line",
         ", field 1: 's' begins a line of a solution, and a problem is expected here",
-    ),
-    problem(
-        "no number of arcs",
-        TEXT.replace(b"3 2", b"3"),
-        "line 1: wrong number of fields",
-        ": the problem line has two numbers (p max NODES ARCS, 4 fields); found 3 fields",
-    ),
-    problem(
-        "one node",
-        b"p max 1 0\nn 1 s\nn 1 t\n",
-        "line 1: count out of range",
-        ", field 3: '1' nodes: NODES is from 2 to 16777216",
-    ),
-    problem(
-        "many nodes",
-        b"p max 99999999 0\nn 1 s\nn 2 t\n",
-        "line 1: count out of range",
-        ", field 3: '99999999' nodes: NODES is from 2 to 16777216",
-    ),
-    problem(
-        "many arcs",
-        b"p max 2 999999999\n",
-        "line 1: count out of range",
-        ", field 4: '999999999' arcs: ARCS is at most 134217728",
     ),
     problem(
         "p asn",
@@ -451,34 +225,4 @@ PROBLEMS = [
         ": no line n ID s names the source",
     ),
     problem("neither of them", b"p max 2 0\n", "line 2: source or sink missing"),
-    problem(
-        "a number past all",
-        capacity(b"18446744073709551616"),
-        "line 4: number too large",
-        ", field 4: '18446744073709551616' is past 18446744073709551615, the largest number",
-    ),
-    problem(
-        "control characters",
-        capacity(b"\x1b[2J\x07"),
-        "line 4: not a number",
-        f", field 4: '\\x1b[2J\\x07' is {BOUNDS}",
-    ),
-    problem(
-        "a control character past ASCII",
-        capacity("1\u009b2J".encode()),
-        "line 4: not a number",
-        f", field 4: '1\\x9b2J' is {BOUNDS}; write digits alone",
-    ),
-    problem(
-        "no UTF-8",
-        capacity(b"1\xff"),
-        "line 4: not a number",
-        f", field 4: '1\ufffd' is {BOUNDS}; write digits alone",
-    ),
-    problem(
-        "a long field",
-        capacity(b"y" * 70),
-        "line 4: not a number",
-        f", field 4: '{'y' * 60}..' is {BOUNDS}",
-    ),
 ]

@@ -1,7 +1,7 @@
 """What the program is to say of solutions on a terminal: rows for tests/program/test_terminal.py,
 worked out by hand."""
 
-from terminal_rows import BOUNDS, solution
+from terminal_texts import BOUNDS, solution
 
 SOLUTIONS = [
     solution("a word", b"s 5\nf 1 2 x\n", "line 2: not a number", f", field 4: 'x' is {BOUNDS}"),

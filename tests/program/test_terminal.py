@@ -12,9 +12,11 @@ from pathlib import Path
 
 import pytest
 from conftest import BUILT, ROOT
-from terminal_rows import PROBLEMS, Text
+from terminal_numbers import NUMBERS
+from terminal_rows import PROBLEMS
 from terminal_sessions import HELP, INVITATION, NETWORK, OPENING, SESSION, SOLVED, WORDS, Words
 from terminal_solutions import SOLUTIONS
+from terminal_texts import Text
 from terminals import SECONDS, Terminal, typed, with_terminal, without_terminal
 
 
@@ -39,7 +41,7 @@ def fixed(row: Text) -> str:
     return f"dmf: {row.fault}\n" if row.fault else ""
 
 
-@pytest.mark.parametrize("row", [pytest.param(it, id=it.name) for it in PROBLEMS])
+@pytest.mark.parametrize("row", [pytest.param(it, id=it.name) for it in PROBLEMS + NUMBERS])
 def test_problem(row: Text) -> None:
     """A problem: on standard input as a file and as a pipe, and as the file of a session and of a
     check."""
