@@ -1,32 +1,26 @@
-"""Tests tools/dmf-plan by scripts: what it tells, what it refuses, and what it saves."""
+"""Tests tools/dmf-plan by scripts: what it tells, and what it refuses."""
 
 from __future__ import annotations
 
-import json
 import re
 import subprocess
-import tempfile
 from pathlib import Path
 
 import pytest
 from desk_shared import (
-    ODD,
     PIPES,
     ROOT,
     SCRIPT,
     SECONDS,
     STORY,
     Pipe,
-    desk_of,
     greatest,
     run,
     swept,
     values,
     water,
-    water_problem,
     without,
 )
-from dmf.desk.plan.shell import Shell
 
 # Lines that are refused before a solve, and what is said of each.
 LINES = {
@@ -125,84 +119,6 @@ def test_scripts() -> None:
         "it would be 120 litres per second: 45 less" in ran.stdout
     ), f"what-if close: {ran.stdout}"
     assert ran.stdout.count("solve: value 165") == 1, f"what-if leaves steps: {ran.stdout}"
-
-
-def test_lists() -> None:
-    """Places with what comes in and goes out, and arcs by conditions and by their beginning."""
-    ran = run("dmf-plan", PIPES, typed="solve\nplaces\npipes\n")
-    flows = {
-        name: int(flow)
-        for name, flow in re.findall(
-            "^  #[0-9]+ (.*), .* -> .*: ([0-9]+) of ", ran.stdout, re.MULTILINE
-        )
-    }
-    assert list(flows) == [pipe.name for pipe in water()]
-    told = {
-        name: (int(come), int(go))
-        for name, come, go in re.findall(
-            "^  (.*): ([0-9]+) in, ([0-9]+) out", ran.stdout, re.MULTILINE
-        )
-    }
-    places = {place for pipe in water() for place in pipe[:2]}
-    wanted = {
-        place: (
-            sum(flows[it.name] for it in water() if it.head == place),
-            sum(flows[it.name] for it in water() if it.tail == place),
-        )
-        for place in places
-    }
-    assert told == wanted and "\n  Harbour: 165 in, 0 out, a sink\n" in ran.stdout
-    ran = run(
-        "dmf-plan",
-        PIPES,
-        typed="close Mill Lane\nsolve\nfrom Mill\npipes where limit\npipes where capacity < 30 and "
-        "from ~ m\nplaces\n",
-    )
-    assert re.findall("#[0-9]+ (.*?), Mill -> .*: ([a-z]*)", ran.stdout)[:2] == [
-        ("Mill Lane", "closed"),
-        ("Bridge pipe", ""),
-    ]
-    limit = re.findall("#[0-9]+ (.*?),.*, limit$", ran.stdout, re.MULTILINE)
-    assert (
-        sum(pipe.capacity for pipe in water() if pipe.name in limit)
-        == without("Mill Lane")
-        == values(ran.stdout)[-1]
-    )
-    small = [pipe.name for pipe in water() if pipe.capacity < 30 and pipe.tail[0] == "M"]
-    assert [name for name in re.findall("#[0-9]+ (.*?),", ran.stdout)][-len(small) :] == small
-    for line, why in (
-        ("worst no", "'no' is not a number"),
-        ("pipes full", "usage: pipes"),
-        ("from", "usage: from"),
-        ("places x", "usage: places"),
-    ):
-        assert why in run("dmf-plan", PIPES, typed=f"solve\n{line}\n").stderr
-    assert "so the limit is not known" in run("dmf-plan", PIPES, typed="pipes where limit\n").stderr
-    objects = [
-        json.loads(line)
-        for line in run(
-            "dmf-plan", "--json", PIPES, typed="solve\nfrom Mill\nwhat-if each arc\npipes\n"
-        ).stdout.splitlines()
-    ]
-    assert [it["event"] for it in objects] == ["change", "flow", "sweep", "flow"]
-    assert [len(objects[1]["arcs"]), len(objects[2]["trials"]), len(objects[3]["arcs"])] == [
-        2,
-        14,
-        14,
-    ]
-
-
-@pytest.mark.parametrize("listed", ["pipes", "flow", "from A", "places"])
-def test_no_flow_yet(tmp_path: Path, listed: str) -> None:
-    """Before the first solve, and once it is undone, a list says why nothing flows. Where 0 is the
-    greatest value, nothing needs saying."""
-    (tmp_path / "t.csv").write_text("from,to,capacity\nA,B,5\nB,C,4\n")
-    script = f"{listed}\nsolve\n{listed}\nundo\n{listed}\nshut B\n{listed}\nsolve\n{listed}\n"
-    lines = run("dmf-plan", f"{tmp_path}/t.csv", typed=script).stdout.splitlines()
-    values = [at for at, it in enumerate(lines) if it.startswith("value ")]
-    told = [at for at, it in enumerate(lines) if it.startswith("there is no flow yet: `solve`")]
-    # Of the four values, none stands before the first list, and two before the second.
-    assert [sum(value < at for value in values) for at in told] == [0, 2] and len(values) == 4
 
 
 def test_many() -> None:
@@ -350,88 +266,6 @@ def test_page(tmp_path: Path) -> None:
     ), f"the second session of docs/PLAN.md: {ran}"
 
 
-def test_files() -> None:
-    """What is saved is a problem, a table and a picture; and which files are refused."""
-    with tempfile.TemporaryDirectory() as folder:
-        table = Path(folder, "odd.csv")
-        table.write_text(
-            f'from,to,litres,pipe\nA,"{ODD.replace(chr(34), chr(34) * 2)}",5,x\n'
-            f'"{ODD.replace(chr(34), chr(34) * 2)}",C,3,\n'
-        )
-        quoted = ODD.replace('"', '""')
-        typed = (
-            f'solve\nshut "{quoted}"\nopen "{quoted}"\nsolve\nsave {folder}/plan.max\nsave '
-            f"{folder}/plan.csv\ndraw {folder}/plan.dot\n"
-        )
-        ran = run("dmf-plan", str(table), typed=typed)
-        assert (ran.returncode, values(ran.stdout)[-1:]) == (0, [3]), f"an odd name: {ran}"
-        saved = Path(folder, "plan.max").read_bytes()
-        assert f"c node 2 {ODD}".encode() in saved, f"the names of a saved problem: {saved!r}"
-        again = run("dmf-plan", f"{folder}/plan.max", typed="solve\n")
-        assert values(again.stdout) == [3], f"a saved problem: {again}"
-        assert b"digraph" in Path(folder, "plan.dot").read_bytes()
-        rows = Path(folder, "plan.csv").read_text().splitlines()
-        assert (len(rows), rows[0]) == (
-            3,
-            "number,name,from,to,flow (litres),capacity (litres),full,in cut",
-        ), f"a saved table: {rows}"
-        for name, text, status, told in (
-            ("two.csv", "A,C,1\nB,C,1\n", 3, '--source "A", as often'),
-            ("ring.csv", "A,B,1\nB,A,1\n", 3, "each place has something that leads to it"),
-            ("bad.csv", "A,B,x y\nB,C,1.5\n", 3, "'x y' is not a number"),
-            ("bad.max", "p max 2 1\nn 1 s\nn 2 t\na 1 2 x\n", 3, "not a number"),
-        ):
-            Path(folder, name).write_text(text)
-            ran = run("dmf-plan", f"{folder}/{name}")
-            assert (
-                ran.returncode == status and told in ran.stderr and "Traceback" not in ran.stderr
-            ), f"{name}: {ran}"
-        ran = run("dmf-plan", f"{folder}/missing.csv")
-        assert ran.returncode == 4, f"a missing file: {ran}"
-        ran = run(
-            "dmf-plan", f"{folder}/two.csv", "--source", "A", "--source", "B", typed="solve\n"
-        )
-        assert values(ran.stdout) == [2], f"two sources: {ran}"
-    assert run("dmf-plan").returncode == 2
-
-
-def test_no_picture(tmp_path: Path, monkeypatch: pytest.MonkeyPatch) -> None:
-    """Where Graphviz fails, a picture is refused in its words, and there is no file."""
-    dot = tmp_path / "dot"
-    dot.write_text("#!/bin/sh\necho 'no such font' >&2\nexit 1\n")
-    dot.chmod(0o755)
-    monkeypatch.setenv("PATH", str(tmp_path), prepend=":")
-    ran = run("dmf-plan", PIPES, typed=f"draw {tmp_path}/plan.svg\n")
-    assert ran.returncode == 1 and ran.stderr.rstrip().endswith(
-        "Graphviz did not draw it: no such font"
-    ), ran
-    assert not (tmp_path / "plan.svg").exists()
-
-
-def test_no_other_file(tmp_path: Path, monkeypatch: pytest.MonkeyPatch) -> None:
-    """What somebody else puts at the path of a new file, after it was found to be free, stays as it
-    is."""
-    plan = Shell(desk_of(water_problem()), is_typed=False, write=lambda _: None)
-    victim, path = tmp_path / "victim.max", tmp_path / "new.max"
-    victim.write_text("as it was")
-    files = plan._context.files
-    put = files.put
-
-    def late(path: str, data: bytes) -> str:
-        Path(path).symlink_to(victim)
-        return put(path, data)
-
-    monkeypatch.setattr(files, "put", late)
-    plan.onecmd(f"save {path}")
-    assert (victim.read_text(), plan.refused) == ("as it was", 1)
-    monkeypatch.undo()
-    path.unlink()
-    # Its own file it writes as often as it is asked.
-    plan.run_script([f"save {path}", f"save {path}"])
-    assert (plan.refused, path.read_text().count("p max")) == (1, 1)
-    plan.desk.end()
-
-
 def test_what_was_closed_last_is_opened() -> None:
     """`open` alone opens the place or the arc that was closed last, one after the other, also after
     an undo."""
@@ -453,41 +287,3 @@ def test_what_was_closed_last_is_opened() -> None:
         without(),
         without(),
     ] and ran.stderr.endswith(": nothing is closed\n"), ran
-
-
-def test_demands() -> None:
-    """Which shops get what they ordered: the flows on the routes to them beside their orders."""
-    supply = ROOT / "examples/supply"
-    rows = (supply / "orders.csv").read_text().splitlines()[1:]
-    orders = {shop: int(pallets) for shop, pallets in (row.split(",") for row in rows)}
-    ran = run(
-        "dmf-plan",
-        f"--sources={supply}/stock.csv",
-        f"--sinks={supply}/orders.csv",
-        f"{supply}/routes.csv",
-        typed='solve\nplaces\nshut "East Depot"\nsolve\npipes\nplaces\nshut Abbey\nplaces\n',
-    )
-    all_met, _, flooded, shut = re.split("^value .*\n", ran.stdout, flags=re.MULTILINE)[1:]
-    assert shops(all_met) == {shop: (ordered, ordered, 0) for shop, ordered in orders.items()}
-    assert all_met.splitlines()[-1] == "all demands are met"
-    brought = dict.fromkeys(orders, 0)
-    for shop, flow in re.findall("^  #[0-9]+ .* -> (.*): ([0-9]+) of", flooded, re.MULTILINE):
-        brought[shop] += int(flow)
-    wanted = {shop: (met, orders[shop], orders[shop] - met) for shop, met in brought.items()}
-    # examples/supply/README.md has the value.
-    assert shops(flooded) == wanted and sum(short for *_, short in wanted.values()) == 150 - 126
-    short = {shop: it for shop, it in wanted.items() if it[2]}
-    told = ", ".join(f"{shop} ({it[0]} of {it[1]})" for shop, it in sorted(short.items()))
-    assert flooded.splitlines()[-1] == f"short by 24 pallets: {' and '.join(told.rsplit(', ', 1))}"
-    assert shops(shut) == {**wanted, "Abbey": (0, 18, 18)}
-    assert shut.splitlines()[-1].startswith("short by 42 pallets: Abbey (0 of 18), ")
-
-
-def shops(text: str) -> dict[str, tuple[int, int, int]]:
-    """What comes into each sink, what it asks for, and what it is said to be short of."""
-    lines = re.findall(
-        "^  (.*): ([0-9]+) of ([0-9]+) in, 0 out, a sink(?:, ([0-9]+) short)?(?:, |$)",
-        text,
-        re.MULTILINE,
-    )
-    return {shop: (int(met), int(ordered), int(short or 0)) for shop, met, ordered, short in lines}
