@@ -1,13 +1,11 @@
-"""Networks of EPANET: what each pipe carries by the formula, what leads which way, what is told and
-asked, and values by networkx from what a file was written of."""
+"""Networks of EPANET: what each pipe carries by the formula, what leads which way, and what is told
+and asked."""
 
 from __future__ import annotations
 
 import argparse
 import math
 import pickle
-import random
-from dataclasses import dataclass, field
 from decimal import Decimal
 from pathlib import Path
 from typing import Any
@@ -20,11 +18,8 @@ from dmf.tables.loader import TableOptions, subject_of
 from dmf.tables.table_file import ReadOptions
 from dmf.tools.board import spots_of
 from office_shared import at_a_terminal
-from packages import load
 
-networkx: Any = load("networkx")
 TOOL = Path(__file__).parents[2] / "tools" / "dmf-plan"
-
 VALLEY = """\
 [TITLE]
 A valley; by hand
@@ -345,104 +340,6 @@ def test_a_project_keeps_the_answers(tmp_path: Path) -> None:
     ran = run("dmf-plan", f"{path.with_suffix('')}.dmf.json", typed="solve\n")
     # The pipe from the Lake to the Hill lets 11.781 through in place of 26.507.
     assert ran.stdout.splitlines()[-1].startswith("value 58.905"), ran
-
-
-# Generated networks, whose value networkx finds from what the file was written of.
-
-
-@dataclass
-class Written:
-    """A network in the lines of its sections, and as a graph."""
-
-    sections: dict[str, list[str]] = field(default_factory=dict)
-    graph: Any = field(default_factory=networkx.MultiDiGraph)
-
-    def add(self, section: str, *words: object) -> None:
-        self.sections.setdefault(section, []).append("\t".join(map(str, words)))
-
-    def text(self, rng: random.Random) -> str:
-        """The sections in any order, with comments, blank lines and either letters."""
-        names = list(self.sections)
-        rng.shuffle(names)
-        lines: list[str] = []
-        for name in names:
-            lines.append(f"[{name if rng.random() < 0.5 else name.lower()}]")
-            for line in self.sections[name]:
-                lines += [line + rng.choice(["", " ;", "; [PIPES] x", "   "])]
-                lines += rng.choice([[], [], ["; a b c"], [""]])
-        return "\r\n".join([*lines, "[END]"])
-
-
-def flow(diameter: int, velocity: float) -> int:
-    """Thousandths of a litre in a second, by floats."""
-    return round(velocity * math.pi * (diameter / 1000) ** 2 / 4 * 1e6)
-
-
-def made(rng: random.Random) -> tuple[str, int]:
-    """A network's text, and its greatest value in thousandths of a litre in a second."""
-    found, velocity = Written(), 1.25
-    graph = found.graph
-    names = [
-        rng.choice(["J{}", '"Weir {}"', "ä{}", "{}"]).format(at) for at in range(rng.randint(3, 9))
-    ]
-    plain = [name.strip('"') for name in names]
-    found.add("OPTIONS", "Units", "LPS")
-    found.add("RESERVOIRS", "R", 50)
-    graph.add_edge(0, "R", capacity=10**9)
-    for at, (name, node) in enumerate(zip(names, plain)):
-        demand = rng.choice([0, 0, rng.randint(1, 40), -rng.randint(1, 9)]) if at else 25
-        found.add("JUNCTIONS", name, 3, demand)
-        if demand:
-            ends = (node, 1) if demand > 0 else (0, node)
-            graph.add_edge(*ends, capacity=abs(demand) * 1000)
-    all_names, all_nodes = ["R", *names], ["R", *plain]
-    for number in range(rng.randint(4, 24)):
-        one, two = rng.sample(range(len(all_names)), 2)
-        diameter = rng.choice([80, 100, 125, 150, 200])
-        kind = rng.choice(["OPEN", "Closed", "CV", "", "PRV", "pump", "status"])
-        tail, head, ends = all_nodes[one], all_nodes[two], (all_names[one], all_names[two])
-        most = flow(diameter, velocity)
-        if kind == "PRV":
-            found.add("VALVES", f"L{number}", *ends, diameter, "prv", 40, 0)
-        elif kind == "pump":
-            found.add("PUMPS", f"L{number}", *ends, "POWER", 5)
-            most = 10**9
-        else:
-            words = [kind] if kind not in ("", "status") else []
-            found.add(
-                "PIPES", f"L{number}", *ends, 90, diameter, 100, *([0] if words else []), *words
-            )
-        if kind == "status":
-            found.add("STATUS", f"L{number}", "CLOSED")
-        if kind in ("Closed", "status"):
-            continue
-        graph.add_edge(tail, head, capacity=most)
-        if kind in ("OPEN", ""):
-            graph.add_edge(head, tail, capacity=most)
-    return found.text(rng), greatest(graph)
-
-
-def greatest(graph: Any) -> int:
-    simple = networkx.DiGraph([(0, "R", {"capacity": 0}), ("R", 1, {"capacity": 0})])
-    for tail, head, most in graph.edges(data="capacity"):
-        before = simple.get_edge_data(tail, head, {"capacity": 0})["capacity"]
-        simple.add_edge(tail, head, capacity=before + most)
-    value: int = networkx.maximum_flow_value(simple, 0, 1)
-    return value
-
-
-@pytest.mark.parametrize("seed", range(60))
-def test_generated(tmp_path: Path, seed: int) -> None:
-    rng = random.Random(seed)
-    text, value = made(rng)
-    try:
-        network = opened(tmp_path, text, velocity="1.25")
-    except dmf.TableFault as fault:
-        # A node without a pipe takes or gives nothing.
-        assert "is in no row of arcs" in str(fault)
-        return
-    with network:
-        assert network.solve().value == Decimal(value) / 1000
 
 
 @pytest.mark.parametrize(
