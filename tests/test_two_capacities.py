@@ -22,23 +22,8 @@ from dmf.desk.board.routes import Board
 from dmf.desk.project.opener import project_desk
 from dmf.desk.project.scenarios import project_of
 from dmf.desk.steps import Close, DeskFault
-from dmf.desk.workspace import Desk
-from dmf.tables.loader import TableOptions, subject_of
 from project_shared import new_project
-
-# All that comes to D goes over Main, from B to C, or over `by`.
-MAIN = """\
-from,to,capacity,name,direction
-A,B,5,one,->
-C,B,3,Main,<->
-A,C,2,by,->
-C,D,7,out,<->
-"""
-
-
-def desk_of(text: str) -> Desk:
-    wanted = TableOptions(source=["A"], sink=["D"])
-    return Desk(subject_of(wanted, "main.csv", text.encode()), with_solve=True)
+from two_way_shared import MAIN, desk_of
 
 
 def told(tmp_path: Path, typed: str, text: str = MAIN) -> list[str]:
@@ -155,7 +140,7 @@ def test_beside_networkx(seed: int) -> None:
     random = Random(f"two capacities {seed}")
     ends = [random.sample("ABCD", 2) for _ in range(7)]
     rows = "".join(f"{tail},{head},5,p{at},<->\n" for at, (tail, head) in enumerate(ends))
-    desk = desk_of(f"from,to,capacity,name,direction\n{rows}A,D,1,last,->\n")
+    desk = desk_of(f"from,to,capacity,name,direction\n{rows}A,D,1,last,->\n", source="A", sink="D")
     network = desk.network
     most = {f"p{at}": (5, 5) for at in range(len(ends))}
     try:
@@ -192,7 +177,7 @@ def test_costs(tmp_path: Path) -> None:
     text = "from,to,capacity,name,direction,cost\nA,B,5,one,->,\nC,B,3,Main,<->,1\nC,D,7,out,<->,\n"
     lines = told(tmp_path, "cap Main 9 back 2\nsolve\ncost to 3\n", text)
     assert lines[-1] == "  1: 3 (Main 1 wider: 1)"
-    desk = desk_of(text)
+    desk = desk_of(text, source="A", sink="D")
     desk.cap_each({2: 9, 3: 2})
     assert _widened(desk, 2, 3) == {2: 9, 3: 3}
     assert [it.value for it in cheapest(desk, prices(desk), 3).bought] == [3]
@@ -206,7 +191,7 @@ def do(board: Board, what: str, **content: Any) -> Any:
 
 def test_board() -> None:
     """A page gets both capacities while both ways are open, and gives both."""
-    desk = desk_of(MAIN)
+    desk = desk_of(MAIN, source="A", sink="D")
     board = Board(desk)
 
     def both(number: int) -> tuple[str, str, str]:
