@@ -1,35 +1,27 @@
 """What reads many cells at once, beside what goes one by one: rows without quotes beside a reader
-of CSV, decimals, the numbers of places, rows that are the same, and the ends of networks."""
+of CSV, columns, and decimals."""
 
 from __future__ import annotations
 
 import csv
 import io
-from array import array
-from collections import Counter
 from collections.abc import Iterator
-from contextlib import ExitStack, contextmanager
+from contextlib import contextmanager
 from decimal import Decimal
 from fractions import Fraction
-from importlib import import_module
-from unittest.mock import patch
 
 import pytest
 from dmf.errors import TableFault
 from dmf.tables import csv_file as file
-from dmf.tables import lone_ends
 from dmf.tables import numpy_rows as spans
 from dmf.tables import readers as numbered
-from dmf.tables import warnings
 from dmf.tables.arcs_and_places import read_arcs
 from dmf.tables.csv_file import Block
-from dmf.tables.lone_ends import ends_alone
 from dmf.tables.numpy_rows import Spans, first_alike, spans_of
 from dmf.tables.plain_numbers import Plain, plain_of
-from dmf.tables.readers import Numbers, are_plain, name_of
+from dmf.tables.readers import Numbers, are_plain
 from dmf.tables.sheet import Rows
 from dmf.tables.table_file import ReadOptions
-from dmf.tables.warnings import _alike, _equal
 from hypothesis import given
 from hypothesis import strategies as some
 from packages import load
@@ -353,88 +345,3 @@ def test_decimals_past_floats(cells: list[str]) -> None:
         assert plain and [Decimal(number).scaleb(-plain.decimals) for number in plain.numbers] == [
             *map(Decimal, cells)
         ]
-
-
-CELLS = some.sampled_from(
-    [
-        "A",
-        "B",
-        " A",
-        "A ",
-        "a  b",
-        "a b",
-        "'=x",
-        "''=x",
-        "=x",
-        "'A",
-        "\u00a0A",
-        "C",
-        "D",
-        "E",
-        "\ufeffA",
-        "x\x07",
-        "",
-        " ",
-        "7",
-    ]
-)
-
-
-@given(some.lists(some.lists(CELLS, min_size=1, max_size=5), max_size=8), some.booleans())
-def test_numbers_of_places(pieces: list[list[str]], is_raw: bool) -> None:
-    """Places have the numbers in which their names first come; a piece with a cell that is no name
-    gives none. What is spelled in two ways is told."""
-    numbers = Numbers(is_raw)
-    known: dict[str, int] = {}
-    ways: dict[str, dict[str, None]] = {}
-    for piece in pieces:
-        names = []
-        for cell in piece:
-            try:
-                names.append(name_of(cell, is_raw=is_raw))
-            except ValueError:
-                names.append("")
-        if not all(names):
-            if "" not in piece:
-                assert numbers.of(piece) is None
-            continue
-        for name, cell in zip(names, piece):
-            known.setdefault(name, len(known) + 1)
-            ways.setdefault(name, {})[cell] = None
-        assert numbers.of(piece) == [known[name] for name in names]
-    assert numbers.places == known
-    for name, other in numbers.respelled.items():
-        assert other != name and name_of(other, is_raw=is_raw) == name
-    assert {name for name, found in ways.items() if len(found) > 1} <= numbers.respelled.keys()
-
-
-ENDS = some.lists(
-    some.tuples(some.integers(1, 6), some.integers(1, 6), some.integers(0, 3)), max_size=12
-)
-
-
-@given(ENDS, some.booleans())
-def test_ends_and_rows(rows: list[tuple[int, int, int]], by_numpy: bool) -> None:
-    """By numpy, where it is there, and without."""
-    tails, heads, numbers = (
-        array(code, [row[place] for row in rows]) for place, code in enumerate("IIQ")
-    )
-    with ExitStack() as stack:
-        for module in lone_ends, warnings:
-            stack.enter_context(
-                patch.object(
-                    module, "numpy_for", lambda _: import_module("numpy") if by_numpy else None
-                )
-            )
-        alone, alike, loops = (
-            ends_alone(tails, heads),
-            set(_alike(tails, heads, numbers)),
-            _equal(tails, heads),
-        )
-    ways = [(tail, head) for tail, head, _ in rows if tail != head]
-    left, entered = {tail for tail, _ in ways}, {head for _, head in ways}
-    first = list(dict.fromkeys(tail for tail, _ in ways if tail not in entered))
-    last = list(dict.fromkeys(head for _, head in ways if head not in left))
-    assert alone == (first, last)
-    assert loops == [place for place, (tail, head, _) in enumerate(rows) if tail == head]
-    assert alike >= {place for place, row in enumerate(rows) if Counter(rows)[row] > 1}
