@@ -1,19 +1,16 @@
 """Sessions by the C library in this process: what its calls answer, how they are broken off, and
-when it is freed."""
+what happens if memory is short."""
 
 from __future__ import annotations
 
-import _thread
-import contextlib
 import gc
 import itertools
-import os
 import signal
 import subprocess
 import sys
 import threading
 import time
-from collections.abc import Callable, Iterator
+from collections.abc import Callable
 from typing import Any
 
 import pytest
@@ -22,12 +19,11 @@ from built import heed_interrupts
 from c_library import library_file
 from client_shared import BUILT, PIPES, dmf, environment, interrupted_soon, pipes
 from dmf.session import library as loaded
-from dmf.session import worker_threads
 from dmf.session.base import Part
 from dmf.session.statuses import NO_MEMORY
 from tool_runs import wait_until_asleep
+from watched_library import SECONDS, counted, slow_solve, wait_until_freed
 
-SECONDS = 60
 # A network large enough that its calls run beside, whose solve takes a second on an idle processor:
 # a grid with arcs in three directions.
 GRID = """
@@ -122,95 +118,6 @@ def test_a_sweep(bound: int) -> None:
             assert told[0] == told[1]
 
 
-@contextlib.contextmanager
-def slow_solve(
-    monkeypatch: pytest.MonkeyPatch,
-) -> Iterator[tuple[threading.Event, threading.Event]]:
-    """A block in which the next solve goes on until the second event comes, and begins with the
-    first."""
-    begun, until = threading.Event(), threading.Event()
-    commands: Any = loaded.load(library_file()).commands
-    solve: Callable[[int], int] = commands["solve"]
-
-    def slow(address: int) -> int:
-        if not begun.is_set():
-            begun.set()
-            until.wait(SECONDS)
-        return solve(address)
-
-    with monkeypatch.context() as patched:
-        patched.setitem(commands, "solve", slow)
-        yield begun, until
-        until.set()
-
-
-@contextlib.contextmanager
-def counted(monkeypatch: pytest.MonkeyPatch) -> Iterator[list[int]]:
-    """The addresses of the sessions that are freed in the block."""
-    freed: list[int] = []
-    library_here = loaded.load(library_file())
-    free = library_here.free
-
-    def noted(address: int) -> int:
-        freed.append(address)
-        return free(address)
-
-    with monkeypatch.context() as patched:
-        patched.setattr(library_here, "free", noted)
-        yield freed
-
-
-def wait_until_freed(freed: list[int]) -> None:
-    """Waits until one session is freed: a thread that was left does that at its end."""
-    until = time.monotonic() + SECONDS
-    while not freed:
-        gc.collect()
-        assert time.monotonic() < until, "nothing is freed"
-        time.sleep(0.01)
-    assert len(freed) == 1
-
-
-def test_it_is_freed(monkeypatch: pytest.MonkeyPatch) -> None:
-    """By `end`, when nothing refers to it, and when a problem is refused or a call was broken off;
-    once each."""
-    with counted(monkeypatch) as freed:
-        with pipes() as network:
-            network.solve()
-            assert freed == []
-        assert len(freed) == 1
-        network = pipes()
-        plan = network.solve()
-        # A flow that nobody has looked at asks for it later.
-        del network
-        gc.collect()
-        assert len(freed) == 1 and list(plan.values()) == [3, 2, 1, 2, 3]
-        del plan
-        gc.collect()
-        assert len(freed) == 2
-        network = pipes()
-        network.end()
-        network.end()
-        assert len(freed) == 3
-        with pytest.raises(dmf.Refused):
-            dmf.Network(PIPES, "lake", "lake")
-        assert dmf.value(PIPES, "lake", "sea") == 5
-        assert len(freed) == 4
-
-
-def test_what_was_broken_off_is_freed_at_its_end(monkeypatch: pytest.MonkeyPatch) -> None:
-    """Ctrl-C leaves the call alone, whose session is freed once that ends; meanwhile the network
-    goes on by another one."""
-    monkeypatch.setattr(loaded, "MOST_AT_ONCE", 0)
-    with counted(monkeypatch) as freed, prepared() as network, prepared(
-        program=BUILT
-    ) as other, slow_solve(monkeypatch) as (begun, until):
-        with pytest.raises(KeyboardInterrupt), interrupted_soon(0.3):
-            network.solve()
-        assert begun.is_set() and all_told(network) == all_told(other) and freed == []
-        until.set()
-        wait_until_freed(freed)
-
-
 def test_another_thread_breaks_it_off(monkeypatch: pytest.MonkeyPatch, bound: int) -> None:
     """A call that runs beside is left at once; another one is left when it ends."""
     with counted(monkeypatch) as freed, prepared() as network, slow_solve(monkeypatch) as (
@@ -238,72 +145,6 @@ def test_another_thread_breaks_it_off(monkeypatch: pytest.MonkeyPatch, bound: in
                 network.solve()
         wait_until_freed(freed)
         assert network.begin_again() == network.value
-
-
-def test_one_thread_runs_call_after_call(monkeypatch: pytest.MonkeyPatch) -> None:
-    """Another one begins only while a call was left and goes on; and a forked process has its
-    own."""
-    monkeypatch.setattr(loaded, "MOST_AT_ONCE", 0)
-    worker_threads.threads.cache_clear()
-    begun: list[object] = []
-    begin = _thread.start_new_thread
-
-    def noted(*words: Any) -> int:
-        begun.append(words)
-        return begin(*words)
-
-    monkeypatch.setattr(_thread, "start_new_thread", noted)
-    with prepared() as network, prepared(program=BUILT) as other:
-        for _ in range(20):
-            assert all_told(network) == all_told(other)
-        assert len(begun) == 1
-        with slow_solve(monkeypatch) as (is_begun, _):
-            with pytest.raises(KeyboardInterrupt), interrupted_soon(0.3):
-                network.solve()
-            assert is_begun.is_set() and all_told(network) == all_told(other)
-        assert len(begun) == 2
-        child = os.fork()
-        if child == 0:
-            with contextlib.suppress(BaseException), pipes() as own:
-                os._exit(0 if own.solve().value == 5 and len(begun) == 3 else 1)
-            os._exit(2)
-        assert os.waitpid(child, 0)[1] == 0
-
-
-def test_few_threads_are_kept() -> None:
-    threads, until = worker_threads.Threads(), threading.Event()
-    done: list[int] = []
-
-    def work(_: object, number: int) -> None:
-        until.wait(SECONDS)
-        done.append(number)
-
-    for turn in range(3):
-        until.clear()
-        for number in range(turn * 50, turn * 50 + 50):
-            threads.begin(worker_threads.Job(work, worker_threads.Handle(int, 0), (number,)))
-        until.set()
-        end = time.monotonic() + SECONDS
-        while len(done) < turn * 50 + 50 or len(threads._waiting) > worker_threads.MOST_THREADS:
-            assert time.monotonic() < end
-            time.sleep(0.01)
-    assert sorted(done) == list(range(150))
-
-
-def test_a_forked_process_leaves_it_alone(monkeypatch: pytest.MonkeyPatch) -> None:
-    with pipes() as network:
-        child = os.fork()
-        if child == 0:
-            status = 1
-            with contextlib.suppress(BaseException), counted(monkeypatch) as freed:
-                with contextlib.suppress(dmf.UsedByTwoProcesses):
-                    network.solve()
-                    os._exit(2)
-                network._session.end()
-                status = 3 if freed else 0
-            os._exit(status)
-        assert os.waitpid(child, 0)[1] == 0
-        assert network.solve().value == 5
 
 
 @pytest.mark.parametrize("how", ["now", "at the end"])
