@@ -7,50 +7,22 @@ import hashlib
 import os
 import re
 import shutil
-import subprocess
-from collections.abc import Iterator
 from pathlib import Path
 
-import dmf
 import pytest
 from conftest import ROOT
 from launched import judge_help, judge_words
-from trees import commit_all, copy_tracked
+from package_runs import call_dpkg, judge_examples, ran, run, the
 
 pytestmark = pytest.mark.seconds(20)
 TOOLS = ["dmf-problem", "dmf-names", "dmf-dot", "dmf-sweep", "dmf-plan", "dmf-board"]
 # A link of a page to a file, and the file.
 LINK = re.compile(r"\]\((?!https?:|#)([^)#]*)")
-# What is written after each example.
-END = "\x1e"
 SCRIPT = """
 import dmf
 network = dmf.Network([("lake", "mill", 3), ("mill", "sea", 2)], "lake", "sea")
 print(dmf.__file__, dmf.program(), dmf.library(), network.solve().value)
 """
-
-
-def run(
-    *words: str | Path, folder: Path = ROOT, **environment: str
-) -> subprocess.CompletedProcess[str]:
-    """Runs a program where neither the toolchain nor an installed dmf is found."""
-    plain = {"PATH": "/usr/bin:/bin", "HOME": str(folder), "LC_ALL": "C.UTF-8", **environment}
-    return subprocess.run(
-        words,
-        cwd=folder,
-        env=plain,
-        stdin=subprocess.DEVNULL,
-        capture_output=True,
-        text=True,
-        timeout=120,
-    )
-
-
-def ran(*words: str | Path, folder: Path = ROOT, **environment: str) -> str:
-    """What a program writes that has to end well."""
-    done = run(*words, folder=folder, **environment)
-    assert done.returncode == 0, f"{words}: {done.stdout}{done.stderr}"
-    return done.stdout
 
 
 @pytest.fixture(scope="module")
@@ -68,23 +40,6 @@ def made(tmp_path_factory: pytest.TempPathFactory) -> Path:
         ".whl",
     ]
     return folder
-
-
-def the(folder: Path, pattern: str) -> Path:
-    (found,) = folder.glob(pattern)
-    return found
-
-
-def call_dpkg(root: Path, *words: str | Path) -> None:
-    """Puts or removes a package in a root that has nothing else, not even a shell: the package's
-    scripts run outside."""
-    database = root / "var/lib/dpkg"
-    if not database.exists():
-        for name in "info", "updates":
-            (database / name).mkdir(parents=True)
-        (database / "status").touch()
-    force = "--force-depends,script-chrootless"
-    ran("dpkg", f"--root={root}", force, *words, PATH="/usr/sbin:/usr/bin:/sbin:/bin")
 
 
 @pytest.fixture(scope="module")
@@ -106,26 +61,6 @@ def unpacked(made: Path, tmp_path_factory: pytest.TempPathFactory) -> Path:
     return the(folder, "*")
 
 
-def examples(page: Path) -> Iterator[tuple[str, str]]:
-    """Each command of a page with what it is to write."""
-    for found in re.finditer(
-        r"^    \$ (.*)\n((?:    (?!\$ ).*\n)*)", page.read_text(), re.MULTILINE
-    ):
-        yield found[1], re.sub("^    ", "", found[2], flags=re.MULTILINE)
-
-
-def judge_examples(page: Path, folder: Path, **environment: str) -> None:
-    """Runs the examples of a page in a folder."""
-    pairs = list(examples(page))
-    assert len(pairs) > 5
-    script = "".join(f"{command}\nprintf '{END}'\n" for command, _ in pairs)
-    done = run("sh", "-c", script, folder=folder, PATH=f"{folder}:/usr/bin:/bin", **environment)
-    for (command, wanted), written in zip(pairs, done.stdout.split(END)):
-        assert written == wanted, f"{command}: {done.stderr}"
-    told = [line for line in done.stderr.splitlines() if ": from 'from', to 'to'" not in line]
-    assert (told, done.stdout.count(END)) == ([], len(pairs))
-
-
 def test_sums(made: Path) -> None:
     """All that was made beside them is as they say, by the tool of the field."""
     told = ran("sha256sum", "-c", "SHA256SUMS", folder=made)
@@ -135,26 +70,6 @@ def test_sums(made: Path) -> None:
     for line in (made / "SHA256SUMS").read_text().splitlines():
         digest, name = line.split("  ")
         assert hashlib.sha256((made / name).read_bytes()).hexdigest() == digest
-
-
-def test_the_same_elsewhere(tmp_path: Path) -> None:
-    """Two copies of the tree give the same bytes, whatever lies beside what git tracks, in whatever
-    order and with whatever modes."""
-    contents = []
-    for name in "one", "another place":
-        tree, output = tmp_path / name / "tree", tmp_path / name / "made"
-        copy_tracked(tree)
-        commit_all(tree)
-        if name != "one":
-            for stray in "answer.txt", "water/names.txt", "water/note.csv", "README.md":
-                (tree / "examples" / stray).write_text("left by a story\n")
-            (tree / "clients/python/dmf/stray.py").write_text("left\n")
-            (tree / "docs/dmf-stray.1").write_text("left\n")
-            (tree / "tools/dmf-stray").write_text("#!/bin/sh\n")
-            (tree / "LICENSE").chmod(0o600)
-        ran("./package", "--output", output, folder=tree)
-        contents.append({path.name: path.read_bytes() for path in output.iterdir()})
-    assert len(contents[0]) == 6 and contents[0] == contents[1]
 
 
 def test_only_what_git_tracks(unpacked: Path, system: Path) -> None:
@@ -173,17 +88,6 @@ def test_only_what_git_tracks(unpacked: Path, system: Path) -> None:
     } <= tracked | theirs
 
 
-def test_not_a_checkout(tmp_path: Path) -> None:
-    """Without git nobody knows what belongs to dmf."""
-    shutil.copy(ROOT / "package", tmp_path)
-    done = run("./package", folder=tmp_path, GIT_CEILING_DIRECTORIES=str(tmp_path.parent))
-    assert (done.returncode, done.stdout, (tmp_path / "out").exists()) == (1, "", False)
-    assert (
-        "is not a git checkout, which would say which files belong to dmf; nothing was made"
-        in done.stderr
-    )
-
-
 def test_links(unpacked: Path, system: Path) -> None:
     """No link of a page leads nowhere, and those to what is packed are links still."""
     for folder in unpacked, system / "usr/share/doc/dmf":
@@ -198,27 +102,6 @@ def test_links(unpacked: Path, system: Path) -> None:
             *places[folder / "README.md"]
         }
         assert "DEFINITIONS.md" in places[folder / "docs/TRUST.md"] and len(places) > 8
-
-
-def test_plain_links(tmp_path: Path) -> None:
-    """What leads nowhere keeps its words."""
-    (tmp_path / "docs").mkdir()
-    (tmp_path / "docs/b.md").touch()
-    for text, wanted in (
-        ("See [b](docs/b.md), [c](docs/c.md).", "See [b](docs/b.md), c."),
-        (
-            "[b](docs/b.md#a-b) [c](docs/c.md#a-b) [folder](docs) [none](none)",
-            "[b](docs/b.md#a-b) c [folder](docs) none",
-        ),
-        (
-            "![picture](x.png) [web](https://x.org/y) [here](#below) [`code`](../y.rs)",
-            "picture [web](https://x.org/y) [here](#below) `code`",
-        ),
-        ("a[0](x) array[1] (docs/c.md)", "a0 array[1] (docs/c.md)"),
-    ):
-        (tmp_path / "page.md").write_text(text)
-        ran("python3", "tools/plain_links.py", tmp_path)
-        assert (tmp_path / "page.md").read_text() == wanted
 
 
 def test_lintian(made: Path) -> None:
@@ -417,33 +300,3 @@ def test_install_of_the_archive(unpacked: Path, tmp_path: Path) -> None:
     assert used.split()[1:] == [str(program), f"{prefix}/lib/libdmf.so.0", "2"]
     ran("./install", "--prefix", prefix, "--remove", folder=unpacked)
     assert not prefix.exists()
-
-
-def test_words(tmp_path: Path) -> None:
-    for words in ["--deb"], ["--output"], ["--output="]:
-        done = run("./package", *words)
-        assert (done.returncode, done.stdout, "Usage: package" in done.stderr) == (2, "", True)
-    assert "--archive" in ran("./package", "--help")
-    # A machine that has no dpkg-deb.
-    few = tmp_path / "bin"
-    few.mkdir()
-    for path in Path("/usr/bin").iterdir():
-        if not path.name.startswith("dpkg"):
-            (few / path.name).symlink_to(path)
-    done = run("./package", "--output", tmp_path / "none", PATH=str(few))
-    assert (done.returncode, done.stdout, (tmp_path / "none").exists()) == (1, "", False)
-    assert "dpkg-deb is not installed; nothing was made" in done.stderr
-    ran("./package", "--archive", "--output", tmp_path / "one", PATH=str(few))
-    assert sorted(path.suffix for path in (tmp_path / "one").iterdir()) == ["", ".gz"]
-    ran("sha256sum", "-c", "SHA256SUMS", folder=tmp_path / "one")
-
-
-def test_one_version() -> None:
-    """Whatever prints a version prints that of the program."""
-    version = ran("./dmf", "--version").removeprefix("dmf ").strip()
-    assert dmf.__version__ == version
-    for page in ROOT.glob("docs/*.1"):
-        assert f'"dmf {version}"' in page.read_text().splitlines()[0], page
-    released = re.findall(r"^## ([0-9.]+) - ", (ROOT / "CHANGELOG.md").read_text(), re.MULTILINE)
-    assert released[0] == version
-    assert f'VERSION: &str = "{version}"' in (ROOT / "crates/dmf_arguments/src/help.rt").read_text()

@@ -52,6 +52,15 @@ def test_the_package() -> None:
     assert dmf.__version__ == VERSION
 
 
+def test_the_pages_and_the_log() -> None:
+    """The manual pages, the head of the log of changes, and the program's help."""
+    for page in ROOT.glob("docs/*.1"):
+        assert f'"dmf {VERSION}"' in page.read_text().splitlines()[0], page
+    released = re.findall(r"^## ([0-9.]+) - ", (ROOT / "CHANGELOG.md").read_text(), re.MULTILINE)
+    assert released[0] == VERSION
+    assert f'VERSION: &str = "{VERSION}"' in (ROOT / "crates/dmf_arguments/src/help.rt").read_text()
+
+
 def test_it_is_written_everywhere(tmp_path: Path) -> None:
     """Of another version the tool leaves nothing but what is written by hand and what a renewal
     makes, and no file has a third one."""
