@@ -22,7 +22,9 @@ from built import Case
 from odd_texts import ODD_BYTES
 from oracle import program
 from oracle.program import Outcome
-from random_cases import plain_text, random_case, with_fault, words_of
+from random_cases import random_case
+from random_texts import plain_text, with_fault
+from random_words import words_of
 from traits import fields_of, traits
 
 CORPUS = Path(__file__).resolve().parent / "corpus"

@@ -1,7 +1,4 @@
-"""Random cases: problems, command scripts, solutions and words, right ones and faulty ones.
-
-A text is made as a list of lines, and a line as a list of fields. Faults are put into these, or
-into the bytes at the end."""
+"""Random cases: networks, and what the program is asked about them, right or faulty."""
 
 from __future__ import annotations
 
@@ -9,23 +6,15 @@ from collections.abc import Callable, Iterator
 from dataclasses import replace
 from random import Random
 
-from built import PROBLEM, Case
-from commands import ARC, CAPACITY, COMMANDS, NODE, PRINTED, STEPS, WHAT, Command
-from odd_texts import ODD_BYTES, ODD_COMMANDS, ODD_FIELDS, ODD_LINES
+from built import Case
 from oracle.changes import add, cap, close, shut, solve
 from oracle.network import Arc, State
 from oracle.texts import LARGEST, Fault
+from random_scripts import command_lines
+from random_texts import Lines, line, text_of
+from random_words import random_words, words_of
 
-Lines = list[list[bytes]]
 CHANGES: list[Callable[..., State]] = [solve, cap, cap, close, shut, add]
-SOLVE = COMMANDS["solve"]
-# The commands that a chain of changes has, and those after one.
-CHAINED = [it for it in COMMANDS.values() if it.changes and it is not SOLVE]
-AFTER_CHAIN = [COMMANDS[word] for word in ("print", "print", "undo", "redo")]
-
-
-def line(*fields: object) -> list[bytes]:
-    return [str(field).encode() for field in fields]
 
 
 def capacities(random: Random) -> Callable[[], int]:
@@ -207,238 +196,6 @@ def solution_lines(state: State, random: Random) -> Lines:
     if random.random() < 0.5:
         random.shuffle(lines)
     return lines
-
-
-# An addition is sometimes taken back and made again, before or after the arc is used.
-AFTER_ADDITION: list[Lines] = [
-    [],
-    [],
-    [],
-    [line("undo"), line("redo")],
-    [line("solve"), line("undo", 2), line("redo", 2)],
-    [line("undo"), line("solve")],
-]
-
-
-def mixture(random: Random) -> list[Command]:
-    """The commands of a script, in any order."""
-    # An addition rebuilds all links if an end has no spare one: some scripts have few.
-    rest = random.choice([1, 1, 0.1])
-    weights = {
-        word: it.weight * (rest if word in ("add", "undo") else 1) for word, it in COMMANDS.items()
-    }
-    weights["print"] += random.randrange(9)
-    return random.choices(
-        [*COMMANDS.values()],
-        [*weights.values()],
-        k=random.randint(1, random.choice([3, 8, 20, 60, 200])),
-    )
-
-
-def chains(random: Random) -> list[Command]:
-    """The commands of a script that has long chains of changes between its solves. Most of them
-    change a capacity, since the others leave little flow for those after them."""
-    weights = [it.weight * (3 if it.word == "cap" else 0.5) for it in CHAINED]
-    commands = [SOLVE]
-    for _ in range(random.randint(1, 3)):
-        commands += random.choices(CHAINED, weights, k=random.choice([10, 15, 30, 70]))
-        commands += random.choices(AFTER_CHAIN, k=random.randrange(4))
-        commands.append(SOLVE)
-    return commands
-
-
-def command_lines(state: State, random: Random) -> Lines:
-    """A script of commands. Most of them can be carried out."""
-    odd_share = random.choice([0, 0.02, 0.3])
-    is_chain = random.random() < 0.2
-    commands = chains(random) if is_chain else mixture(random)
-    after_addition = [
-        lines for lines in AFTER_ADDITION if not is_chain or line("solve") not in lines
-    ]
-    arc_count = len(state.arcs)
-    lines: Lines = []
-    for command in commands:
-        if random.random() < odd_share:
-            lines.append(random.choice(ODD_COMMANDS))
-            continue
-        arc = random.randint(0 if odd_share else 1, arc_count + 1)
-        near = [
-            amount
-            for known in state.arcs[arc - 1 : arc]
-            for amount in (known.cap // 2, known.cap // 2, known.cap, known.cap + 1)
-        ]
-        amount = random.choice([0, 1, 1, 2, 2, 3, 5, 9, 20, 2**63, *near, *near])
-        ends = iter(
-            [random.randint(0 if odd_share else 1, state.nodes + bool(odd_share)) for _ in range(2)]
-        )
-        fields: dict[str, Callable[[], list[object]]] = {
-            ARC: lambda: [arc],
-            NODE: lambda: [next(ends)],
-            CAPACITY: lambda: [amount],
-            STEPS: lambda: [random.choice([0, 1, 1, 2, 2, 3, 9])] * random.randrange(2),
-            WHAT: lambda: [random.choice([*PRINTED, "flow", "cut"])],
-        }
-        lines.append(
-            line(command.word, *(field for kind in command.kinds for field in fields[kind]()))
-        )
-        if command.word == "add":
-            arc_count += 1
-            lines += random.choice(after_addition)
-    return lines
-
-
-def with_fault(lines: Lines, random: Random) -> Lines:
-    """The lines with one thing changed. What is made need not be at fault."""
-    lines = [list(fields) for fields in lines] or [[]]
-    # The first three lines of a problem are at fault in most ways.
-    place = random.randrange(random.choice([1, 3, len(lines), len(lines)])) % len(lines)
-    fields = lines[place]
-    kind = random.randrange(11)
-    if kind == 0:
-        del lines[place]
-    elif kind == 10:
-        del lines[place:]
-    elif kind == 1:
-        lines.insert(random.randint(0, len(lines)), fields)
-    elif kind == 2:
-        other = random.randrange(len(lines))
-        lines[place], lines[other] = lines[other], lines[place]
-    elif kind == 3 or not fields:
-        lines.insert(random.randint(0, len(lines)), random.choice(ODD_LINES))
-    elif kind == 4:
-        fields.insert(random.randint(0, len(fields)), random.choice(ODD_FIELDS))
-    elif kind == 5:
-        fields.pop(random.randrange(len(fields)))
-    else:
-        at = random.randrange(len(fields))
-        fields[at] = other_field(fields[at], lines, random)
-    return lines
-
-
-def other_field(field: bytes, lines: Lines, random: Random) -> bytes:
-    """A field in place of this one: a number near it, a field of another line, or an odd one."""
-    kind = random.randrange(3)
-    if kind == 0 and field.isdigit() and len(field) < 100:
-        return str(max(0, int(field) + random.choice([-1, 1]))).encode()
-    if kind == 1:
-        return random.choice(random.choice([fields for fields in lines if fields]))
-    return random.choice(ODD_FIELDS)
-
-
-def plain_text(lines: Lines) -> bytes:
-    return b"".join(b" ".join(fields) + b"\n" for fields in lines)
-
-
-def loose_text(lines: Lines, random: Random, comment: bytes) -> bytes:
-    """The text of lines with more space than is needed, leading zeros, comments, blank lines and
-    carriage returns."""
-    text = b""
-    odd_end = b"\r\r\n" if random.random() < 0.2 else b"\n"
-    for fields in lines:
-        spaced = [random.choice([b"", b"", b" ", b"\t \t"])]
-        for field in fields:
-            zeros = b"0" * random.choice([0, 0, 0, 1, 25]) if field.isdigit() else b""
-            spaced += [zeros + field, random.choice([b" ", b" ", b"\t", b"   "])]
-        text += b"".join(spaced if random.random() < 0.2 else spaced[:-1])
-        text += random.choice(
-            [b"\n", b"\n", b"\n", b"\r\n", odd_end if random.random() < 0.05 else b"\n"]
-        )
-        if random.random() < 0.1:
-            text += random.choice(
-                [b"\n", b" \t\n", b"\r\n", comment + b"\n", b" " + comment + b" \xff\0 p max\r\n"]
-            )
-    return text
-
-
-def text_of(lines: Lines, random: Random, comment: bytes, fault_share: float) -> bytes:
-    """The text of lines. This share of the texts is changed somewhere, which may be a fault."""
-    is_changed = random.random() < fault_share
-    if is_changed:
-        for _ in range(random.choice([0, 1, 1, 2])):
-            lines = with_fault(lines, random)
-    text = plain_text(lines) if random.random() < 0.5 else loose_text(lines, random, comment)
-    if random.random() < 0.1:
-        text = text.removesuffix(b"\n")
-    if is_changed and random.random() < 0.3:
-        place = random.randint(0, len(text))
-        text = random.choice(
-            [
-                text[:place],
-                text[:place] + random.choice(ODD_BYTES) + text[place:],
-                text[:place] + text[place + 1 :],
-            ]
-        )
-    return text
-
-
-def words_of(command: bytes, random: Random) -> tuple[bytes, ...]:
-    """Words that ask for this, with or without a cut, brief replies, any greatest flow, nodes,
-    pairs of arcs, second arcs, a number of the worst and a bound of the history; some of them are
-    faulty."""
-    solves = command in (b"solve", b"session")
-    path = (
-        [random.choices([PROBLEM, b"missing.max", b"folder"], [98, 1, 1])[0]]
-        if command in (b"session", b"check")
-        else []
-    )
-    cut = [b"--cut"] * random.randrange(2) if solves else []
-    bound = (
-        [[b"--history", b"%d" % random.choice(BOUNDS)]]
-        if command == b"session" and random.random() < 0.5
-        else []
-    )
-    brief = [b"--brief"] * random.randrange(2) if solves else []
-    any_flow = [b"--any"] * random.randrange(2) if command == b"solve" else []
-    nodes = [b"--nodes"] * random.randrange(2) if command == b"vital" else []
-    second = [b"--second"] if command == b"vital" and random.random() < 0.2 else []
-    pairs = [b"--pairs"] if command == b"vital" and random.random() < 0.25 else []
-    worst = (
-        [[b"--worst", b"%d" % random.choice(MOST_WORST)]]
-        if command == b"vital" and random.random() < 0.5
-        else []
-    )
-    flags = cut + brief + any_flow + nodes + pairs + second
-    parts = [[word] for word in flags + path] + bound + worst
-    words = [command] + [word for part in random.sample(parts, len(parts)) for word in part]
-    if words == [b"solve"] and random.random() < 0.3:
-        words = []
-    if random.random() < 0.03:
-        words.insert(random.randint(0, len(words)), random.choice(ODD_WORDS))
-    return tuple(words)
-
-
-BOUNDS = [0, 1, 1, 2, 3, 5, 1_000_000, 1_000_001]
-MOST_WORST = [0, 1, 1, 2, 3, 5, 10_000, 10_001]
-ODD_WORDS = (
-    [b"--history", b"--history=2", b"+1", b"1000001", b"-1"]
-    + [
-        b"solve",
-        b"session",
-        b"check",
-        b"vital",
-        b"help",
-        b"--help",
-        b"-h",
-        b"--version",
-        b"-V",
-        b"--any",
-        b"--brief",
-        b"--cut",
-        b"--nodes",
-        b"--pairs",
-        b"--second",
-        b"--worst",
-        b"--",
-        b"wash",
-        b"--wash",
-    ]
-    + [PROBLEM, b"missing.max", b"folder", b"\xff", b"", b"./" + PROBLEM]
-)
-
-
-def random_words(random: Random) -> tuple[bytes, ...]:
-    """Any words. The problem's file may be missing, or a folder."""
-    return tuple(random.choices(ODD_WORDS, k=random.randrange(5)))
 
 
 def random_case(name: str, random: Random) -> Case:

@@ -13,7 +13,8 @@ from odd_texts import DRAWN_COMMANDS, ODD_BYTES, ODD_FIELDS, ODD_LINES
 from oracle.network import Arc, State
 from oracle.session import Session, SolveReply
 from oracle.texts import LARGEST, Fault
-from random_cases import AFTER_ADDITION, CHAINED, ODD_WORDS
+from random_scripts import AFTER_ADDITION, CHAINED
+from random_words import ODD_WORDS
 
 Lines = list[list[bytes]]
 

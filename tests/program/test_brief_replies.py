@@ -11,6 +11,7 @@ from random import Random
 
 import pytest
 import random_cases
+import random_scripts
 from dmf.text.problem_text import read_problem
 from dmf.text.session_replies import CutReply, SolutionReply, TranscriptFault
 from dmf.text.transcript import TranscriptReader
@@ -180,7 +181,7 @@ def test_random_sessions(seed: int) -> None:
         state = random_cases.network(random, 12)
         if state.source == state.sink or state.capacity_sum() > texts.LARGEST:
             continue
-        commands = [b" ".join(line) + b"\n" for line in random_cases.command_lines(state, random)]
+        commands = [b" ".join(line) + b"\n" for line in random_scripts.command_lines(state, random)]
         wanted = session.SolveReply(cut=random.random() < 0.5, brief=True)
         for is_given in True, False:
             solves += followed(state, commands, wanted, is_given)

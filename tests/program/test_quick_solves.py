@@ -21,7 +21,8 @@ from oracle.problem import read_problem
 from oracle.program import AnySolution
 from oracle.texts import LineFault
 from program.test_named_networks import NETWORKS
-from random_cases import fitting, network, plain_text, problem_lines
+from random_cases import fitting, network, problem_lines
+from random_texts import plain_text
 from worked_forms import text
 
 FAMILIES = (

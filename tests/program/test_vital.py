@@ -21,7 +21,8 @@ from oracle.network import Arc, State
 from oracle.problem import read_problem
 from oracle.texts import LARGEST, LineFault
 from program.test_quick_solves import FAMILIES, Generate, generate
-from random_cases import MOST_VALUED, fitting, network, plain_text, problem_lines
+from random_cases import MOST_VALUED, fitting, network, problem_lines
+from random_texts import plain_text
 
 # The networks of the families are made by the fixture of the quick solves.
 __all__ = ["generate"]

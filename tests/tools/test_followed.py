@@ -11,6 +11,8 @@ from typing import Any
 
 import pytest
 import random_cases
+import random_scripts
+import random_texts
 from dmf.text.lexical import Fault, display, fields, lines, read_number
 from dmf.text.problem_text import read_problem
 from dmf.text.session_replies import CutReply, Event, PrintedReply, SolutionReply, TranscriptFault
@@ -164,7 +166,7 @@ def test_problems(batch: int) -> None:
     random = Random(f"problems/{batch}")
     for _ in range(PROBLEMS):
         network = random_cases.network(random, 10)
-        text = random_cases.text_of(random_cases.problem_lines(network, random), random, b"cx", 0.7)
+        text = random_texts.text_of(random_cases.problem_lines(network, random), random, b"cx", 0.7)
         assert outcome(read, text) == outcome(read_by_oracle, text), text
 
 
@@ -233,7 +235,7 @@ def scripted(random: Random, most_nodes: int) -> tuple[State, list[list[bytes]]]
     while True:
         state = random_cases.network(random, most_nodes)
         if state.source != state.sink and state.capacity_sum() <= texts.LARGEST:
-            return state, random_cases.command_lines(state, random)
+            return state, random_scripts.command_lines(state, random)
 
 
 @batches
@@ -274,11 +276,11 @@ def test_odd_replies(batch: int) -> None:
     faults = 0
     for _ in range(ODD_REPLIES):
         state, lines_of_script = scripted(random, 6)
-        script = random_cases.plain_text(lines_of_script[:30])
+        script = random_texts.plain_text(lines_of_script[:30])
         replies, _ = session.run_lines(
             state, script, session.SolveReply(cut=random.random() < 0.5), session.Refusals()
         )
-        odd = random_cases.text_of([fields(line) for line in lines(replies)], random, b"cx", 1)
+        odd = random_texts.text_of([fields(line) for line in lines(replies)], random, b"cx", 1)
         commands = random.choice([None, lines_with_ends(script)])
         faults += (
             fault_of(oracle_problem.problem_text(state), commands, lines_with_ends(odd)) is not None
