@@ -23,46 +23,12 @@ from c_library import library_folder
 from client_shared import BUILT, CLIENT, dmf
 from conftest import ROOT, shared
 from launched import judge_help, judge_streams, judge_words
+from pip_runs import SECONDS, build, call, out, own, pip_install
 from trees import copy_tracked
 
 pytestmark = pytest.mark.seconds(10)
-SECONDS = 60
 TOOLS = sorted(path.name for path in (ROOT / "tools").glob("dmf-*"))
 TABLE = str(ROOT / "examples/water/pipes.csv")
-BUILD = "import build_wheel, sys; print(build_wheel.{}(sys.argv[1]))"
-
-
-def build(
-    folder: Path, target: Path, what: str = "build_wheel", check: bool = True, **environment: str
-) -> subprocess.CompletedProcess[str]:
-    """Calls a hook of the backend as pip does, without the toolchain."""
-    target.mkdir(exist_ok=True)
-    words = [sys.executable, "-c", BUILD.format(what), str(target)]
-    plain = {"PATH": "/usr/bin:/bin", **environment}
-    return subprocess.run(
-        words, cwd=folder, env=plain, capture_output=True, text=True, timeout=SECONDS, check=check
-    )
-
-
-def pip_install(environment: Path, *words: object) -> None:
-    pip = [
-        str(environment / "bin/python"),
-        "-m",
-        "pip",
-        "install",
-        "--no-index",
-        "--quiet",
-        "--no-cache-dir",
-    ]
-    variables = {
-        "PATH": "/usr/bin:/bin",
-        "HOME": str(environment),
-        "PIP_DISABLE_PIP_VERSION_CHECK": "1",
-    }
-    ran = subprocess.run(
-        [*pip, *map(str, words)], env=variables, capture_output=True, text=True, timeout=SECONDS
-    )
-    assert ran.returncode == 0, ran.stdout + ran.stderr
 
 
 @pytest.fixture(scope="session")
@@ -78,41 +44,6 @@ def folder(tmp_path_factory: pytest.TempPathFactory) -> Path:
             )
             pip_install(path / "environment", path / "tree/clients/python")
     return path
-
-
-def call(folder: Path, *words: object, given: str = "") -> subprocess.CompletedProcess[str]:
-    """Runs a command of the environment, where there is neither the toolchain nor another dmf."""
-    variables = {
-        "PATH": f"{folder}/environment/bin:/usr/bin:/bin",
-        "HOME": str(folder),
-        "LC_ALL": "C.UTF-8",
-    }
-    return subprocess.run(
-        [*map(str, words)],
-        cwd=folder,
-        env=variables,
-        input=given,
-        capture_output=True,
-        text=True,
-        timeout=SECONDS,
-    )
-
-
-# What a tool tells of the columns of a table that it reads.
-TOLD = re.compile(r"dmf-\w+: (?:there are no titles: )?from .+, to .+, capacity .+\n")
-
-
-def out(folder: Path, *words: object, given: str = "") -> str:
-    """What a command writes that has to end well, and tells at most how a table was read."""
-    ran = call(folder, *words, given=given)
-    told = TOLD.sub("", ran.stderr, count=1)
-    assert (ran.returncode, told) == (0, ""), f"{words}: {ran.stdout}{ran.stderr}"
-    return ran.stdout
-
-
-def own(folder: Path) -> Path:
-    (found,) = (folder / "environment").glob("lib/python3*/site-packages/dmf/bin/dmf")
-    return found
 
 
 PROBLEM = (ROOT / "examples/a.max").read_text()
