@@ -7,7 +7,7 @@ from collections.abc import Sequence
 from decimal import Decimal
 from typing import Any
 
-from office_sheets import Arcs
+from office_readings import Arcs
 from packages import load
 from terminals import Terminal
 

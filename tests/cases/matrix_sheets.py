@@ -7,7 +7,7 @@ from collections.abc import Mapping, Sequence
 from dataclasses import dataclass, field
 from typing import Any
 
-from office_sheets import Arcs, Asked
+from office_readings import Arcs, Asked
 
 # By the place, what it gives, takes or lets through; None is no limit.
 Amounts = Mapping[str, Any]

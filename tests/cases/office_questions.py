@@ -3,7 +3,7 @@ value then."""
 
 from __future__ import annotations
 
-from office_sheets import NO_TOWN, VALLEY, Arcs, Asked
+from office_readings import NO_TOWN, VALLEY, Arcs, Asked
 
 LENGTHS: Arcs = [
     (tail, head, length) for (tail, head, _), length in zip(VALLEY, [1200, 800, 900, 650, 300])

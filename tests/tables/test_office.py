@@ -19,8 +19,9 @@ from dmf.tools.desk_options import RowCount
 from dmf.tools.options import add_words, words_of
 from matrix_sheets import MATRICES
 from office_questions import ASKED
+from office_readings import Arcs, Asked, Read
 from office_shared import at_a_terminal, ends_of, greatest
-from office_sheets import READ, Arcs, Asked, Read
+from office_sheets import READ
 from packages import load
 
 openpyxl: Any = load("openpyxl")
