@@ -1,6 +1,7 @@
-"""What arcs, nodes and pairs are worth, and what new arcs bring, on random networks:
-vital_networks.cpp compares each value that the library finds with a whole solve of its own. --long
-tries 200,000 networks, in some 15 minutes."""
+"""What arcs, nodes and pairs are worth, and what new arcs bring: vital_networks.cpp compares each
+value that the library finds with a whole solve of its own, on random networks and, without pairs
+and new arcs, on one of each family of the benchmark. --long tries 200,000 random networks, in some
+15 minutes, and families of 3,000 arcs, in as many."""
 
 from __future__ import annotations
 
@@ -9,18 +10,42 @@ from pathlib import Path
 
 import pytest
 from c_library import ROOT, compiled, library_folder
+from program.test_quick_solves import FAMILIES, Generate, generate
 
+# The networks of the families are made by the fixture of the quick solves.
+__all__ = ["generate"]
 # In the gate, and by --long; the first seed.
 NETWORKS, MANY, SEED = 300, 200_000, 1990
-# The least number of values that are compared on a network, in the mean.
+ARCS, MANY_ARCS = 300, 3_000
+# The least number of values that are compared on a random network, in the mean.
 VALUES = 1_000
 
 
-def test_random_networks(request: pytest.FixtureRequest, tmp_path: Path) -> None:
-    """No value of the library differs."""
+@pytest.fixture(scope="module")
+def program(tmp_path_factory: pytest.TempPathFactory) -> Path:
     source = ROOT / "tests/library/vital_networks.cpp"
-    program = compiled(["g++", "-std=c++17"], source, library_folder(), tmp_path)
+    return compiled(
+        ["g++", "-std=c++17"], source, library_folder(), tmp_path_factory.mktemp("vital")
+    )
+
+
+def compared(program: Path, *words: str, problem: bytes = b"") -> int:
+    """How many values were compared, none of which differs."""
+    ran = subprocess.run([program, *words], input=problem, capture_output=True)
+    assert ran.returncode == 0, ran.stdout + ran.stderr
+    return int(ran.stdout)
+
+
+def test_random_networks(request: pytest.FixtureRequest, program: Path) -> None:
     count = MANY if request.config.getoption("--long") else NETWORKS
-    ran = subprocess.run([program, str(count), str(SEED)], capture_output=True, text=True)
-    assert ran.returncode == 0, ran.stdout
-    assert int(ran.stdout) >= VALUES * count
+    assert compared(program, str(count), str(SEED)) >= VALUES * count
+
+
+@pytest.mark.parametrize("family", FAMILIES)
+def test_families(
+    request: pytest.FixtureRequest, program: Path, generate: Generate, family: str
+) -> None:
+    """Each arc, each node and each second arc is compared."""
+    problem = generate(family, MANY_ARCS if request.config.getoption("--long") else ARCS)
+    nodes, arcs = map(int, problem.split()[2:4])
+    assert compared(program, problem=problem) > 2 * arcs + nodes

@@ -1,9 +1,13 @@
 /* Random networks of at most 40 arcs, each in a session: the worth of every arc, node and pair, lists of the worst, and what second and new
- * arcs bring, beside whole solves by this program's own augmenting paths. Usage: vital_networks NETWORKS SEED. Prints how many
- * values were compared, or the first that differs and its network, and then ends with 1.
+ * arcs bring, beside whole solves by this program's own augmenting paths. Or one problem from standard input, however large: the same
+ * without pairs and new arcs. Usage: vital_networks NETWORKS SEED, or vital_networks <PROBLEM. Prints how many values were compared,
+ * or the first that differs and its network, and then ends with 1.
  *
- * The networks have self loops, parallel arcs, arcs into the source and out of the sink, closed arcs, and capacities that are 0, small,
+ * The random networks have self loops, parallel arcs, arcs into the source and out of the sink, closed arcs, and capacities that are 0, small,
  * large, or add up to 2^64 - 1. Half of them are solved, changed and solved again. */
+#include "../../bench/dimacs.hpp"
+#include "whole_solves.hpp"
+
 #include <dmf.h>
 
 #include <algorithm>
@@ -15,91 +19,12 @@
 
 namespace {
 
-using Number = std::uint64_t;
-using Numbers = std::vector<std::uint32_t>;
-using Values = std::vector<Number>;
-
-struct Arc {
-    std::uint32_t tail, head;
-    Number capacity;
-    bool closed;
-};
-
-struct Network {
-    std::uint32_t nodes, source, sink;
-    std::vector<Arc> arcs;
-};
-
 std::mt19937_64 drawn;
 Number compared = 0;
 
 Number draw(Number limit) { return drawn() % limit; }
 
 std::uint32_t draw_node(std::uint32_t nodes) { return static_cast<std::uint32_t>(1 + draw(nodes)); }
-
-/* The residual network of a solve: link i and link i ^ 1 are the two directions of an arc. */
-struct Residual {
-    struct Link {
-        std::uint32_t head;
-        Number room;
-    };
-    std::vector<Link> links;
-    std::vector<std::vector<std::size_t>> from;
-
-    explicit Residual(const Network &network) : links(), from(network.nodes + 1)
-    {
-        for (const Arc &arc : network.arcs) {
-            if (arc.closed || arc.tail == arc.head)
-                continue;
-            from[arc.tail].push_back(links.size());
-            links.push_back({arc.head, arc.capacity});
-            from[arc.head].push_back(links.size());
-            links.push_back({arc.tail, 0});
-        }
-    }
-
-    /* Augments along a shortest path, and returns by how much: 0 if there is no path. */
-    Number augment(std::uint32_t source, std::uint32_t sink)
-    {
-        std::vector<std::size_t> last(from.size(), SIZE_MAX);
-        std::vector<bool> seen(from.size());
-        Numbers queue{source};
-        seen[source] = true;
-        for (std::size_t next = 0; next < queue.size(); next++)
-            for (const std::size_t link : from[queue[next]])
-                if (links[link].room > 0 && !seen[links[link].head]) {
-                    seen[links[link].head] = true;
-                    last[links[link].head] = link;
-                    queue.push_back(links[link].head);
-                }
-        if (!seen[sink])
-            return 0;
-        Number most = UINT64_MAX;
-        for (std::uint32_t v = sink; v != source; v = links[last[v] ^ 1].head)
-            most = std::min(most, links[last[v]].room);
-        for (std::uint32_t v = sink; v != source; v = links[last[v] ^ 1].head) {
-            links[last[v]].room -= most;
-            links[last[v] ^ 1].room += most;
-        }
-        return most;
-    }
-};
-
-Number value_of(const Network &network)
-{
-    Residual residual(network);
-    Number value = 0;
-    while (const Number more = residual.augment(network.source, network.sink))
-        value += more;
-    return value;
-}
-
-Network without(const Network &network, std::size_t index)
-{
-    Network rest = network;
-    rest.arcs[index].closed = true;
-    return rest;
-}
 
 void compare(const Network &network, const char *what, Number place, Number found, Number expected)
 {
@@ -363,28 +288,58 @@ void compare_new(const dmf_session *session, const Network &network, Number valu
     compare_gains(network, "new arc", value, arcs, status, found);
 }
 
+/* ---- What is compared ---------------------------------------------------------------------------------------------- */
+
+Network problem_on_standard_input()
+{
+    const dimacs::Network problem = dimacs::read_network();
+    Network network{problem.nodes, problem.source, problem.sink, {}};
+    for (std::size_t j = 0; j < problem.arcs(); j++)
+        network.arcs.push_back({problem.tails[j], problem.heads[j], problem.capacities[j], false});
+    return network;
+}
+
+/* Everything but pairs and new arcs. */
+void compare_parts(const dmf_session *session, const Network &network, Number value)
+{
+    compare(network, "value", 0, dmf_session_value(session), value);
+    compare_arcs(session, network, value);
+    compare_nodes(session, network, value);
+    compare_seconds(session, network, value);
+}
+
+void compare_problem(const Network &network)
+{
+    dmf_session *session = opened(network);
+    compare_parts(session, network, value_of(network));
+    dmf_session_free(session);
+}
+
+void compare_random(Network network)
+{
+    dmf_session *session = opened(network);
+    if (draw(2) == 0)
+        change(session, network);
+    const Number value = value_of(network);
+    compare_parts(session, network, value);
+    compare_pairs(session, network, value);
+    compare_new(session, network, value);
+    dmf_session_free(session);
+}
+
 } // namespace
 
 int main(int count, char **words)
 {
-    if (count != 3) {
-        std::fprintf(stderr, "usage: vital_networks NETWORKS SEED\n");
+    if (count == 1) {
+        compare_problem(problem_on_standard_input());
+    } else if (count == 3) {
+        drawn.seed(std::strtoull(words[2], nullptr, 10));
+        for (Number left = std::strtoull(words[1], nullptr, 10); left > 0; left--)
+            compare_random(random_network());
+    } else {
+        std::fprintf(stderr, "usage: vital_networks NETWORKS SEED, or vital_networks <PROBLEM\n");
         return 2;
-    }
-    drawn.seed(std::strtoull(words[2], nullptr, 10));
-    for (Number left = std::strtoull(words[1], nullptr, 10); left > 0; left--) {
-        Network network = random_network();
-        dmf_session *session = opened(network);
-        if (draw(2) == 0)
-            change(session, network);
-        const Number value = value_of(network);
-        compare(network, "value", 0, dmf_session_value(session), value);
-        compare_arcs(session, network, value);
-        compare_nodes(session, network, value);
-        compare_pairs(session, network, value);
-        compare_seconds(session, network, value);
-        compare_new(session, network, value);
-        dmf_session_free(session);
     }
     std::printf("%llu\n", static_cast<unsigned long long>(compared));
     return 0;
