@@ -73,6 +73,21 @@ def test_the_largest_capacity(library: Library) -> None:
         assert losses(session) == ((most,), (0, 0))
 
 
+def test_the_largest_sum_at_a_node(library: Library) -> None:
+    """All arcs are at node 3, and those that enter it carry as much as those that leave it: 2^64 - 2
+    together, and with a loop at both of its ends 2^64. Then another way leads past node 3."""
+    half = 2**63 - 1
+    entering, leaving = [half // 3, half // 2, half - half // 3 - half // 2], [half - 7, 7]
+    arcs = [(1, 3, cap) for cap in entering] + [(3, 2, cap) for cap in leaving] + [(3, 3, 1)]
+    with library.open(3, (1, 2), arcs) as session:
+        session.step("solve")
+        assert losses(session) == ((*entering, *leaving, 0), (0, 0, half))
+    with library.open(3, (1, 2), [*arcs[:3], (3, 2, half - 9), (1, 2, 8)]) as session:
+        session.step("solve")
+        assert session.number("value") == half - 1
+        assert losses(session)[1] == (0, 0, half - 9)
+
+
 @pytest.mark.parametrize(("call", "right"), zip(CALLS, (ARCS, NODES)))
 @pytest.mark.parametrize("count", [0, 1, 3, NODES, ARCS, 6])
 def test_an_array_of_another_length(library: Library, call: str, right: int, count: int) -> None:

@@ -147,6 +147,18 @@ def small_network(random: Random) -> State:
     return State(nodes, source, sink, arcs, (0,) * count)
 
 
+def test_largest_sum_at_a_node() -> None:
+    """The capacities add up to 2^64 - 1, and the arcs at node 3 carry all but 3 of that; 2 go past
+    it."""
+    half = 2**63 - 2
+    arcs = [(1, 3, half - 5), (1, 3, 5), (3, 2, 5), (3, 2, half - 5), (1, 2, 2), (3, 3, 1)]
+    assert sum(cap for _, _, cap in arcs) == LARGEST
+    lines = ["p max 3 6", "n 1 s", "n 2 t", *(f"a {tail} {head} {cap}" for tail, head, cap in arcs)]
+    problem = "\n".join([*lines, ""]).encode()
+    assert vital(problem, NODES) == [b"c value %d" % (half + 2), b"v 3 2"]
+    judge(problem)
+
+
 @pytest.mark.seconds(5)
 @pytest.mark.parametrize("family", FAMILIES)
 def test_families(generate: Generate, family: str) -> None:
