@@ -3,7 +3,6 @@
 // that word it writes the value without each of them in turn, each solved from scratch.
 #include "links.hpp"
 
-#include <ctime>
 #include <utility>
 
 #include <boost/graph/boykov_kolmogorov_max_flow.hpp>
@@ -56,16 +55,13 @@ int main(int count, char **words) {
     const int64_t value = solve();
     clock.lap("solve");
     if (count > 2) {
-        dimacs::Output values;
-        const std::clock_t began = std::clock();
-        for (int at = 2; at < count; ++at) {
-            const Place along = links.along(std::atoi(words[at]) - 1);
+        dimacs::write_cases(clock, count - 2, words + 2, [&](size_t j) {
+            const Place along = links.along(j);
             const int64_t capacity = along == NO_PLACE ? 0 : std::exchange(capacities[along], 0);
-            values.line("s", solve());
+            const int64_t without = solve();
             if (along != NO_PLACE) capacities[along] = capacity;
-        }
-        // In processor seconds.
-        clock.tell("cases " + std::to_string(static_cast<double>(std::clock() - began) / CLOCKS_PER_SEC));
+            return without;
+        });
         return 0;
     }
     dimacs::write_solution(network, value, [&](size_t j) {

@@ -14,7 +14,7 @@ from collections.abc import Callable, Iterator
 from pathlib import Path
 from typing import Any, NamedTuple
 
-from setting import BENCH, CACHE, DMF
+from setting import BENCH, CACHE, DMF, library
 
 sys.path.insert(0, str(BENCH.parent / "clients" / "python"))
 os.environ.setdefault("DMF", str(DMF))
@@ -35,10 +35,7 @@ class Took(NamedTuple):
 
 def by_library() -> None:
     """Let the C library run the networks of this process."""
-    told = subprocess.run(
-        [BENCH.parent / "tools/prebuilt", "library"], stdout=subprocess.PIPE, text=True, check=True
-    )
-    os.environ["DMF_LIBRARY"] = told.stdout.rstrip("\n")
+    os.environ["DMF_LIBRARY"] = str(library())
 
 
 def drawn(arcs: int) -> Iterator[tuple[int, int, int]]:

@@ -4,10 +4,12 @@
 
 #include <algorithm>
 #include <chrono>
+#include <cmath>
 #include <cstdint>
 #include <cstdio>
 #include <cstdlib>
 #include <cstring>
+#include <ctime>
 #include <memory>
 #include <string>
 #include <vector>
@@ -174,5 +176,24 @@ class Clock {
     std::chrono::steady_clock::time_point began = std::chrono::steady_clock::now();
     std::string told;
 };
+
+// Processor seconds of this process.
+inline double spent() { return static_cast<double>(std::clock()) / CLOCKS_PER_SEC; }
+
+// After how many processor seconds nothing more is begun.
+inline double limit() {
+    const char *const text = std::getenv("DMF_BENCH_LIMIT");
+    return text ? std::atof(text) : HUGE_VAL;
+}
+
+// Writes the value without each of the arcs whose numbers are these words, and tells how many processor seconds that took. It ends
+// before the last of them if the limit is reached.
+template <typename ValueWithout> void write_cases(Clock &clock, int count, char **words, ValueWithout value_without) {
+    Output output;
+    const double began = spent(), end = began + limit();
+    for (int at = 0; at < count && spent() < end; ++at)
+        output.line("s", value_without(static_cast<size_t>(std::atoi(words[at]) - 1)));
+    clock.tell("cases " + std::to_string(spent() - began));
+}
 
 } // namespace dimacs

@@ -1,11 +1,12 @@
-// igraph's push-relabel, with the word `value` for the value alone. It computes with fractions, which are exact up to 2^53.
+// igraph's push-relabel, with the word `value` for the value alone, and with the numbers of arcs behind it for the value without each of
+// them in turn, each solved from scratch. It computes with fractions, which are exact up to 2^53.
 #include "dimacs.hpp"
 
 #include <cstdio>
 
 #include <igraph.h>
 
-int main(int count, char **) {
+int main(int count, char **words) {
     dimacs::Clock clock;
     const dimacs::Network network = dimacs::read_network();
     clock.lap("read");
@@ -25,8 +26,20 @@ int main(int count, char **) {
     igraph_vector_int_destroy(&ends);
     clock.lap("build");
     igraph_real_t value;
-    if (count > 1) {
+    const auto solve = [&] {
         igraph_maxflow_value(&graph, &value, network.source - 1, network.sink - 1, &capacities, nullptr);
+    };
+    if (count > 2) {
+        dimacs::write_cases(clock, count - 2, words + 2, [&](size_t j) {
+            VECTOR(capacities)[j] = 0;
+            solve();
+            VECTOR(capacities)[j] = static_cast<double>(network.capacities[j]);
+            return value;
+        });
+        return 0;
+    }
+    if (count > 1) {
+        solve();
         clock.lap("solve");
         std::printf("s %.0f\n", value);
         return 0;

@@ -1,8 +1,6 @@
 // LEMON's push-relabel. With the numbers of arcs as its words it writes the value without each of them in turn, each solved from scratch.
 #include "dimacs.hpp"
 
-#include <ctime>
-
 #include <lemon/preflow.h>
 #include <lemon/smart_graph.h>
 
@@ -24,18 +22,14 @@ int main(int count, char **words) {
     preflow.run();
     clock.lap("solve");
     if (count > 1) {
-        dimacs::Output values;
-        const std::clock_t began = std::clock();
-        for (int at = 1; at < count; ++at) {
-            const auto arc = graph.arcFromId(std::atoi(words[at]) - 1);
+        dimacs::write_cases(clock, count - 1, words + 1, [&](size_t j) {
+            const auto arc = graph.arcFromId(static_cast<int>(j));
             const int64_t capacity = capacities[arc];
             capacities[arc] = 0;
             preflow.run();
             capacities[arc] = capacity;
-            values.line("s", preflow.flowValue());
-        }
-        // In processor seconds.
-        clock.tell("cases " + std::to_string(static_cast<double>(std::clock() - began) / CLOCKS_PER_SEC));
+            return preflow.flowValue();
+        });
         return 0;
     }
     dimacs::write_solution(network, preflow.flowValue(), [&](size_t j) { return preflow.flow(graph.arcFromId(j)); });

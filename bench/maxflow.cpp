@@ -4,12 +4,20 @@
 #include "dimacs.hpp"
 
 #include <climits>
-#include <ctime>
 
 #define MAXFLOW_INCLUDE_TEMPLATE_IMPLEMENTATION
 #include <maxflow.h>
 
 using Graph = maxflow::Graph<int, int64_t, int64_t>;
+
+// Whether an arc can carry nothing, and so is not in the graph.
+bool is_left_out(const dimacs::Network &network, size_t j) {
+    return network.tails[j] == network.heads[j] || network.heads[j] == network.source || network.tails[j] == network.sink;
+}
+
+bool is_straight(const dimacs::Network &network, size_t j) {
+    return network.tails[j] == network.source && network.heads[j] == network.sink;
+}
 
 // Closes an arc, or opens it again; `step` is the arc in the graph, where it is one there. What flows on an arc that is closed flows on
 // from the source to its tail, and from its head to the sink. Gives how much that is: so much more than its value the graph tells from now on.
@@ -17,6 +25,8 @@ int64_t put(Graph &graph, const dimacs::Network &network, size_t j, Graph::arc_i
     const int tail = static_cast<int>(network.tails[j]) - 1, head = static_cast<int>(network.heads[j]) - 1;
     const auto capacity = static_cast<int>(network.capacities[j]), more = is_open ? capacity : -capacity;
     int64_t flow = 0;
+    if (is_left_out(network, j)) return 0;
+    if (is_straight(network, j)) return -more;
     if (network.tails[j] == network.source) {
         graph.add_tweights(head, more, 0);
     } else if (network.heads[j] == network.sink) {
@@ -47,8 +57,8 @@ int main(int count, char **words) {
         const uint32_t tail = network.tails[j], head = network.heads[j];
         if (network.capacities[j] > INT_MAX) dimacs::fail("a capacity is too large for it");
         const auto capacity = static_cast<int>(network.capacities[j]);
-        if (tail == head || head == network.source || tail == network.sink) continue;
-        if (tail == network.source && head == network.sink) straight += capacity;
+        if (is_left_out(network, j)) continue;
+        if (is_straight(network, j)) straight += capacity;
         else if (tail == network.source) graph.add_tweights(static_cast<int>(head - 1), capacity, 0);
         else if (head == network.sink) graph.add_tweights(static_cast<int>(tail - 1), 0, capacity);
         else {
@@ -64,17 +74,13 @@ int main(int count, char **words) {
         for (Graph::arc_id step = graph.get_first_arc(); steps.size() < added; step = graph.get_next_arc(graph.get_next_arc(step)))
             steps.push_back(step);
         clock.lap("look");
-        dimacs::Output values;
-        const std::clock_t began = std::clock();
-        for (int at = 1; at < count; ++at) {
-            const auto j = static_cast<size_t>(std::atoi(words[at]) - 1);
+        dimacs::write_cases(clock, count - 1, words + 1, [&](size_t j) {
             const Graph::arc_id step = steps.empty() ? nullptr : steps[places[j]];
             straight -= put(graph, network, j, step, false);
-            values.line("s", straight + graph.maxflow(true));
-            put(graph, network, j, step, true);
-        }
-        // In processor seconds.
-        clock.tell("cases " + std::to_string(static_cast<double>(std::clock() - began) / CLOCKS_PER_SEC));
+            const int64_t without = straight + graph.maxflow(true);
+            straight -= put(graph, network, j, step, true);
+            return without;
+        });
         return 0;
     }
     dimacs::Output().line("s", value);

@@ -13,6 +13,22 @@ BENCH = Path(__file__).resolve().parent
 DMF = BENCH.parent / "crates/dmf/out/dmf"
 CACHE = Path(os.environ.get("DMF_BENCH_CACHE") or Path.home() / ".cache/dmf-bench")
 SEED = 1990
+# The families of generate.cpp that the scripts name.
+FAMILIES = [
+    "grid",
+    "random",
+    "road",
+    "street",
+    "bip",
+    "ac",
+    "rmf-wide",
+    "wash-wide",
+    "rmf-long",
+    "wash-long",
+]
+# The arcs of those that bench/run measures at only one size: paths of every length, and reading
+# alone.
+ONE_SIZE = {"ak": 24_619, "combs": 30_000, "easy": 5_000_000}
 
 # For each driver: the Debian package that it needs, a file of the package, and what it is linked
 # with.
@@ -30,6 +46,7 @@ PACKAGES: dict[str, tuple[str, str, list[str]]] = {
         ["-I/usr/include/maxflow-3.0"],
     ),
     "glpsol": ("glpk-utils", "/usr/bin/glpsol", []),
+    "scipy": ("python3-scipy", "/usr/lib/python3/dist-packages/scipy/__init__.py", []),
 }
 
 
@@ -49,8 +66,23 @@ def is_there(driver: str) -> bool:
     return True
 
 
-def build(name: str) -> Path:
-    """Compile a program of this folder, as a packager would, and return its path."""
+def library() -> Path:
+    """Return the C library, which is unpacked if it is missing."""
+    told = subprocess.run(
+        [BENCH.parent / "tools/prebuilt", "library"], stdout=subprocess.PIPE, text=True, check=True
+    )
+    return Path(told.stdout.rstrip("\n"))
+
+
+def driver(name: str) -> Path:
+    """Return the driver of a library, which is compiled first unless it is a script."""
+    script = BENCH / f"by_{name}"
+    return script if script.exists() else build(name)
+
+
+def build(name: str, *more: str) -> Path:
+    """Compile a program of this folder, as a packager would, with more words for the compiler, and
+    return its path."""
     source, program = BENCH / f"{name}.cpp", CACHE / name
     sources = [source, *BENCH.glob("*.hpp")]
     if (
@@ -60,7 +92,8 @@ def build(name: str) -> Path:
         CACHE.mkdir(parents=True, exist_ok=True)
         flags = PACKAGES.get(name, ("", "", []))[2]
         subprocess.run(
-            ["g++", "-O2", "-DNDEBUG", "-std=c++17", "-o", program, source, *flags], check=True
+            ["g++", "-O2", "-DNDEBUG", "-std=c++17", "-o", program, source, *flags, *more],
+            check=True,
         )
     return program
 
