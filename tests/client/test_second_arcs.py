@@ -177,6 +177,31 @@ def test_large_capacities() -> None:
             network.gains()
 
 
+def test_few_calls_where_room_is_short(by_library: None, monkeypatch: pytest.MonkeyPatch) -> None:
+    """Of 40 new arcs there is room for a quarter, for one, or for none at a time. Arcs that do not
+    leave the cut need no room."""
+    library, asked = loaded.load(library_file()), list[int]()
+    tell = library.new_arc_gains
+
+    def counted(address: int, *columns: int) -> int:
+        asked.append(columns[1])
+        return tell(address, *columns)
+
+    monkeypatch.setattr(library, "new_arc_gains", counted)
+    rows = [("lake", f"mill {at}", at) for at in range(40)]
+    rows += [(f"mill {at}", "sea", 2**57) for at in range(40)]
+    with dmf.Network(rows, "lake", "sea") as network:
+        network.solve()
+        # Where there is none, a solved copy is asked too.
+        for more, most in (2**52, 1), (2**57, 15), (2**60, 20), (2**62, 10):
+            new_arcs = [("lake", f"mill {at}", more) for at in range(40)]
+            new_arcs += [(head, "lake", more) for _, head, _ in new_arcs]
+            wanted = [min(more, 2**57 - at) for at in range(40)] + [0] * 40
+            asked.clear()
+            assert list(network.gains_of(new_arcs).gains) == wanted
+            assert asked[0] == 40 and len(asked) <= most
+
+
 def test_no_program_is_needed(by_library: None, monkeypatch: pytest.MonkeyPatch) -> None:
     monkeypatch.setenv("DMF", "/nowhere")
     with pipes() as network:

@@ -96,15 +96,15 @@ def test_what_needs_more_than_a_value(monkeypatch: pytest.MonkeyPatch) -> None:
     monkeypatch.setattr(known_values, "FEWEST", 1)
     monkeypatch.setattr(known_values.KnownValues, "beginning", refuse)
     with random_network(Random("more"), BUILT) as network:
-        others: list[Any] = [
-            dmf.each_pair_added([(0, 1)], 2),
-            dmf.each_capacity_raised(1),
-            [[("close", "k0")]],
-            [[("shut", 1)]],
-        ]
+        others: list[Any] = [[[("close", "k0")]], [[("shut", 1)]]]
         for cases in others:
             assert told(dmf.sweep(network, cases, jobs=1))
-        for cases in dmf.each_arc_closed(), dmf.each_node_shut():
+        for cases in (
+            dmf.each_arc_closed(),
+            dmf.each_node_shut(),
+            dmf.each_pair_added([(0, 1)], 2),
+            dmf.each_capacity_raised(1),
+        ):
             assert told(dmf.sweep(network, cases, want_cut=True, jobs=1))
             with ThreadPoolExecutor(1) as threads:
                 assert told(dmf.sweep(network, cases, threads))

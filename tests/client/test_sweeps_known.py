@@ -1,5 +1,6 @@
-"""Sweeps that close each arc or shut each node, answered by the library's losses: beside networkx
-on the network without the arc or node, and beside sweeps whose cases are tried one by one."""
+"""Sweeps that close each arc, shut each node, raise each capacity or add each arc, answered by the
+library's losses and gains: beside networkx on the network of each case, and beside sweeps whose
+cases are tried one by one."""
 
 from __future__ import annotations
 
@@ -23,6 +24,7 @@ from packages import load
 
 networkx = load("networkx")
 pytestmark = pytest.mark.usefixtures("by_library")
+SHARE = known_values.SHARE
 COUNT = 6
 NODES = range(COUNT)
 SOURCE, SINK = 0, COUNT - 1
@@ -60,6 +62,17 @@ def told(results: Any) -> list[tuple[object, ...]]:
         (it.case, it.value, type(it.value), it.difference, it.cut, repr(it.refusal))
         for it in results
     ]
+
+
+def told_until_it_raises(results: Any) -> list[object]:
+    """The same, and the error that ends the sweep."""
+    said: list[object] = []
+    try:
+        for result in results:
+            said += told([result])
+    except dmf.Error as error:
+        said.append(repr(error))
+    return said
 
 
 @pytest.fixture
@@ -101,6 +114,21 @@ def test_beside_networkx(seed: int) -> None:
         shut: list[Any] = list(dmf.sweep(network, dmf.each_node_shut()))
         assert [(result.case[0][1], result.value * scale) for result in shut] == [*zip(inner, left)]
         assert [result.difference * scale for result in shut] == [it - value for it in left]
+        by = random.choice([0, 1, 4, 2**40])
+        added = Decimal(by) / scale
+        won = [greatest([*opened, (0, *arc[1:3], by)]) for arc in opened]
+        raised: list[Any] = list(dmf.sweep(network, dmf.each_capacity_raised(added)))
+        assert [result.value * scale for result in raised] == won
+        assert [result.difference * scale for result in raised] == [it - value for it in won]
+        assert [result.case for result in raised] == [
+            [("cap", network.arc(arc), arc.capacity + added)] for arc in network.arcs
+        ]
+        pairs = [(tail, head) for tail in NODES for head in NODES]
+        won = [greatest([*opened, (0, *pair, by)]) for pair in pairs]
+        more: list[Any] = list(dmf.sweep(network, dmf.each_pair_added(pairs, added)))
+        assert [(result.case[0][1:3], result.value * scale) for result in more] == [
+            *zip(pairs, won)
+        ]
 
 
 @pytest.mark.parametrize("seed", range(20))
@@ -116,22 +144,36 @@ def test_beside_cases_that_are_tried(seed: int, monkeypatch: pytest.MonkeyPatch)
     if random.randrange(4):
         network.solve()
     keys: list[Any] = [f"k{at}" for at in range(len(rows))]
+    pairs: list[Any] = [(tail, head) for tail in NODES for head in NODES]
     asked: list[Any] = [
         *map(dmf.each_arc_closed, (None, keys, [*keys, "nothing", (0, 1)])),
         *map(dmf.each_node_shut, (None, range(1, COUNT), [*NODES, "nothing"], [1, 1])),
+        dmf.each_capacity_raised(3),
+        dmf.each_capacity_raised(2**62, keys[1:]),
+        dmf.each_capacity_raised(2**63),
+        dmf.each_capacity_raised(2**64 - 1),
+        dmf.each_capacity_raised(1, keys),
+        dmf.each_capacity_raised(1, [*keys[1:], "nothing", keys[-1]]),
+        dmf.each_pair_added(pairs, random.randrange(9)),
+        dmf.each_pair_added([*pairs, (0, "nothing"), ([], 1), (0, 1, 2), *pairs], 5),
+        dmf.each_pair_added([*pairs, {1, 2}, *pairs], 5),
+        dmf.each_pair_added(pairs, -1),
+        dmf.each_pair_added(pairs, 2**64),
+        dmf.each_pair_added(iter(pairs), 2),
     ]
     for cases in asked:
         found = []
-        for share in 0, known_values.SHARE:
+        made = list(cases(network)) if cases is asked[-1] else cases
+        for share in 0, SHARE:
             monkeypatch.setattr(known_values, "SHARE", share)
-            results = dmf.sweep(network, cases, jobs=1 + random.randrange(2))
+            results = dmf.sweep(network, made, jobs=1 + random.randrange(2))
             network.add(SOURCE, SINK, 5)
-            found.append(told(results))
+            found.append(told_until_it_raises(results))
             network.undo()
         assert found[0] == found[1]
     value = network.value
     with ProcessPoolExecutor(2) as processes:
-        for cases in asked[0], asked[3]:
+        for cases in asked[0], asked[3], asked[7], asked[13]:
             there = told(dmf.sweep(network, cases, processes))
             assert there == told(dmf.sweep(network, cases))
             network.end()
@@ -140,12 +182,80 @@ def test_beside_cases_that_are_tried(seed: int, monkeypatch: pytest.MonkeyPatch)
     network.end()
 
 
+@pytest.mark.parametrize("seed", range(10))
+def test_beside_cuts(seed: int) -> None:
+    """A sweep that also tells cuts tries each case."""
+    random = Random(f"known cuts {seed}")
+    with dmf.Network(random_rows(random), SOURCE, SINK, nodes=NODES) as network:
+        if seed % 2:
+            network.solve()
+        pairs = [(random.randrange(COUNT), random.randrange(COUNT)) for _ in range(20)]
+        for cases in dmf.each_capacity_raised(4), dmf.each_pair_added(pairs, 3):
+            tried = [(it.case, it.value) for it in dmf.sweep(network, cases, want_cut=True, jobs=1)]
+            assert [(it.case, it.value) for it in dmf.sweep(network, cases)] == tried
+            assert all(it.cut is None for it in dmf.sweep(network, cases))
+
+
+def solved_with(network: Any, number: int, by: Decimal) -> Any:
+    """The greatest value if this arc carries as much more."""
+    with network.try_out():
+        arc = network.arcs[number]
+        network.cap(arc, arc.capacity + by)
+        return network.solve().value
+
+
 @pytest.mark.usefixtures("untried")
-@pytest.mark.parametrize("asked", [dmf.each_arc_closed, dmf.each_node_shut])
-def test_a_stop(asked: Any, monkeypatch: pytest.MonkeyPatch) -> None:
-    """Ctrl-C while the library looks for the losses takes effect at once, and the network is as it
-    was."""
-    look = LibrarySession._values_without
+def test_a_table(tmp_path: Path) -> None:
+    """Of two sources, with a pipe that leads both ways and a place that lets little through."""
+    (tmp_path / "pipes.csv").write_text(
+        "from,to,capacity,direction\na,c,1.5,one way\nb,c,2.5,both\nc,d,3.25,both\nd,e,4,one way\n"
+    )
+    with dmf.read_table(
+        tmp_path / "pipes.csv", source=["a", "b"], sink="e", limits={"d": 3}
+    ) as network:
+        by, count = Decimal("0.75"), len(network.arcs)
+        assert network.solve().value == 3
+        wanted = [solved_with(network, number, by) for number in range(count)]
+        assert [it.value for it in dmf.sweep(network, dmf.each_capacity_raised(by))] == wanted
+        network.cap(("d", "e"), 1)
+        wanted = [solved_with(network, number, by) for number in range(count)]
+        assert [it.value for it in dmf.sweep(network, dmf.each_capacity_raised(by))] == wanted
+        assert Decimal("1.75") in wanted
+
+
+def test_little_room() -> None:
+    """The library takes four arcs for a new one. If there is no room for them, the cases are tried,
+    and those past 64 bits are refused."""
+    rows = [("a", "b", 2**62, "first"), ("b", "c", 2**61, "second")]
+    with dmf.Network(rows, "a", "c") as network:
+        network.solve()
+        for by, expected in (
+            (2**60, [2**61, 2**61 + 2**60]),
+            (2**63, [2**61, 2**62]),
+            (2**63 + 2**61 + 1, [None, None]),
+        ):
+            found = list(dmf.sweep(network, dmf.each_capacity_raised(by)))
+            assert [it.value for it in found] == expected
+            refused = [type(it.refusal) for it in found if it.value is None]
+            assert refused == [dmf.CapacitiesPast64Bits] * expected.count(None)
+
+
+CHAINS = [
+    (dmf.each_arc_closed(), "_values_without", 0),
+    (dmf.each_node_shut(), "_values_without", 0),
+    (dmf.each_capacity_raised(1), "_gains", 1),
+    (dmf.each_pair_added([(at, at + 1) for at in range(MOST_LOST_AT_ONCE)], 1), "_gains", 1),
+]
+
+
+@pytest.mark.usefixtures("untried")
+@pytest.mark.parametrize(
+    ("asked", "call", "value"), CHAINS, ids=["closed", "shut", "raised", "added"]
+)
+def test_a_stop(asked: Any, call: str, value: int, monkeypatch: pytest.MonkeyPatch) -> None:
+    """Ctrl-C while the library looks for the losses or gains takes effect at once, and the network
+    is as it was."""
+    look = getattr(LibrarySession, call)
     asked_at: list[float] = []
     # More arcs than the losses of are found in the caller's thread.
     chain = [(at, at + 1, 1) for at in range(MOST_LOST_AT_ONCE + 1)]
@@ -158,14 +268,14 @@ def test_a_stop(asked: Any, monkeypatch: pytest.MonkeyPatch) -> None:
     with dmf.Network(chain, 0, len(chain)) as network:
         assert network.solve().value == 1
         with monkeypatch.context() as slowed:
-            slowed.setattr(LibrarySession, "_values_without", slow)
+            slowed.setattr(LibrarySession, call, slow)
             with pytest.raises(KeyboardInterrupt), interrupted_soon(0.5):
-                list(dmf.sweep(network, asked()))
+                list(dmf.sweep(network, asked))
             assert asked_at and time.monotonic() - asked_at[0] < 0.5 + SOON
         assert network.value == 1
-        results = list(dmf.sweep(network, asked()))
-        things = MOST_LOST_AT_ONCE + (asked is dmf.each_arc_closed)
-        assert [result.value for result in results] == [0] * things
+        results = list(dmf.sweep(network, asked))
+        assert [result.value for result in results] == [value] * len(results)
+        assert len(results) >= MOST_LOST_AT_ONCE
 
 
 def ran(words: list[str], folder: Path, library: str) -> tuple[bytes, bytes]:
@@ -193,6 +303,11 @@ def test_the_same_bytes(count: int, tmp_path: Path) -> None:
         plain = ran([*words, "--cases", "cases"], tmp_path, "")
         assert plain == ran([*words, "--close-each"], tmp_path, library)
     assert len(plain[0].splitlines()) == count + 1
+    more = [f"cap {at + 1} {random.randrange(99, 200)}\n" for at in range(count)]
+    more += [f"add {tail} {head} {random.randrange(99)}\n" for head, tail in ends]
+    for lines in more, [*more, "cap 1 99; cap 2 99\n", "add 99 1 7\n", "close 1\n", "cap 1 0\n"]:
+        (tmp_path / "more").write_text("".join(lines))
+        assert ran(["--cases", "more"], tmp_path, "") == ran(["--cases", "more"], tmp_path, library)
     # An interrupted table goes on, wherever it ends.
     ran(["--cases", "cases", "--table", "plain"], tmp_path, "")
     whole = (tmp_path / "plain").read_bytes()

@@ -12,15 +12,12 @@ from .network_losses import VitalNetwork
 from .rows import whole
 from .session.base import ArcColumns
 from .session_holder import exclusive
-from .text.lexical import AMOUNTS, LARGEST, NODES
+from .text.lexical import AMOUNTS, LARGEST, MOST_ARCS, NODES
 
 if TYPE_CHECKING:
     from contextlib import AbstractContextManager
 
     from .gains import NewArc, NewArcs, SecondArcs
-
-# The most arcs that a network can have.
-MOST_ARCS = 2**27
 
 
 class GrowingNetwork(VitalNetwork[Node]):

@@ -51,6 +51,10 @@ from .worker_threads import Given, Handle, Job
 # MOST_PAIRED_AT_ONCE.
 MOST_AT_ONCE, MOST_LOST_AT_ONCE, MOST_PAIRED_AT_ONCE, MOST_STEPS = 20_000, 1_000, 100, 4
 
+# In how many calls the gains of new arcs are found at most, where there is no room for all of them
+# at once.
+MOST_ASKED = 16
+
 STEPS = "undo", "redo"
 
 
@@ -205,12 +209,17 @@ class LibrarySession(Session):
         return self._do(self._cut)
 
     def _cut(self, held: Handle) -> tuple[int, list[int]]:
-        marks = array("B", bytes(self._library.nodes(held.address)))
-        status = self._library.side(held.address, _place(marks), len(marks))
+        marks, status = self._side(held)
         if status != OK:
             raise refused(REASONS[status], "print cut", None)
         # The cut has the capacity of the value, as each minimum cut.
         return self._library.value(held.address), list(compress(count(1), marks))
+
+    def _side(self, held: Handle) -> tuple[array[int], int]:
+        """Return a mark for each node, which is 1 on the source's side of the smallest minimum cut,
+        and the library's status."""
+        marks = array("B", bytes(self._library.nodes(held.address)))
+        return marks, self._library.side(held.address, _place(marks), len(marks))
 
     def maximum_flow(self, want_flows: bool, want_side: bool) -> Solved:
         return self._do(self._maximum_flow, want_flows, want_side)
@@ -270,20 +279,41 @@ class LibrarySession(Session):
         return self._do(self._gains, arcs, most_at_once=MOST_LOST_AT_ONCE)
 
     def _gains(self, held: Handle, arcs: ArcColumns) -> array[int] | None:
+        """Return the gains of all these arcs. The library is asked for those that leave the
+        smallest minimum cut, since the others gain nothing, and need no room in it."""
+        marks, status = self._side(held)
+        if status == NOT_GREATEST:
+            return None
+        if status != OK:
+            raise refused_line(REASONS[status], None)
+        ends = enumerate(zip(arcs.tails, arcs.heads))
+        leaving = [at for at, (tail, head) in ends if marks[tail - 1] > marks[head - 1]]
+        chosen = (array(it.typecode, [it[at] for at in leaving]) for it in arcs)
+        found = self._gains_together(held, ArcColumns(*chosen), MOST_ASKED)
+        if found is None:
+            return None
+        gains = array(AMOUNTS, [0]) * len(arcs.tails)
+        for at, gain in zip(leaving, found):
+            gains[at] = gain
+        return gains
+
+    def _gains_together(self, held: Handle, arcs: ArcColumns, most: int) -> array[int] | None:
         """Return the gains of all these arcs at once, or of each half of them where the library can
-        take no more together."""
+        take no more together, with at most `most` calls that tell gains."""
         count = len(arcs.tails)
         gains = array(AMOUNTS, [0]) * count
         columns = [part for column in (*arcs, gains) for part in (_place(column), count)]
         status = self._library.new_arc_gains(held.address, *columns)
         if status == OK:
             return gains
-        if status in (TOO_MANY_ARCS, SUM_TOO_LARGE) and count > 1:
-            halves = slice(count // 2), slice(count // 2, None)
-            first, second = (
-                self._gains(held, ArcColumns(*(it[half] for it in arcs))) for half in halves
-            )
-            return None if first is None or second is None else first + second
+        if status in (TOO_MANY_ARCS, SUM_TOO_LARGE) and count > 1 and most > 1:
+            for half in slice(count // 2), slice(count // 2, None):
+                chosen = ArcColumns(*(it[half] for it in arcs))
+                found = self._gains_together(held, chosen, most // 2)
+                if found is None:
+                    return None
+                gains[half] = found
+            return gains
         if status in (NOT_GREATEST, TOO_MANY_ARCS, SUM_TOO_LARGE):
             return None
         raise refused_line(REASONS[status], None)

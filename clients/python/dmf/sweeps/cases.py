@@ -20,14 +20,13 @@ from ..rows import Whole, is_unordered
 from ..session.base import MOST_KEPT, Part, import_package
 from ..session.runners import program_of
 from .copies import CaseAnswer, Command, Plain
+from .each import Case, Each
 from .known_values import KnownValues
 from .pool import ExecutorPool, LocalPool, Pending, RemoteCopy, Tries
 
 if TYPE_CHECKING:
     from concurrent.futures import Executor
 
-# What is tried: a list of commands, or a function that is given a network to change.
-Case = Union[Iterable[Command], Callable[[Network[Any]], object]]
 # The cases of a sweep, or a function that makes them from the network.
 Cases = Union[Iterable[Case], Callable[[Network[Any]], Iterable[Case]]]
 COMMANDS = {"cap": 2, "close": 1, "open": 1, "shut": 1, "add": 3}
@@ -59,26 +58,6 @@ class SweepResult(Generic[Node]):
     difference: int | None = None
     cut: tuple[Arc[Node], ...] | None = None
     refusal: Error | None = None
-
-
-class Each(Iterator[Case]):
-    """Cases that are made from these things one by one, when they are needed. Their number is known
-    if that of the things is. `part` is what each case leaves out, if it does only that."""
-
-    def __init__(
-        self, make: Callable[[Any], Case], things: Iterable[Any], part: Part | None = None
-    ) -> None:
-        self._cases = map(make, things)
-        self._left = operator.length_hint(things)
-        self.part = part
-
-    def __next__(self) -> Case:
-        case = next(self._cases)
-        self._left = max(0, self._left - 1)
-        return case
-
-    def __length_hint__(self) -> int:
-        return self._left
 
 
 def each_arc_closed(
@@ -211,7 +190,8 @@ def sweep(
     network as it is when the sweep begins. Cases are taken when they are needed, so there may be
     any number of them. If only values are wanted, and `each_arc_closed` or `each_node_shut` makes a
     case for a quarter of the arcs or nodes or more, the call finds all values, as `Network.vital`
-    and `Network.vital_nodes` do.
+    and `Network.vital_nodes` do; so it does, as `Network.gains_of`, if the library runs the session
+    and a list gives `each_capacity_raised` or `each_pair_added` as many arcs.
 
     If a case is refused, or if its function raises an error of this package, its result says so.
     Any other exception ends the sweep. An exception while the cases are made is raised after the
@@ -281,8 +261,8 @@ def sweep(
         begin = functools.partial(
             ExecutorPool, RemoteCopy.of(swept.kept, named, anew, swept.kind), executor, want_cut
         )
-    elif not want_cut and isinstance(made, Each) and made.part is not None:
-        begin = KnownValues.beginning(network, swept.kept, made.part, count, begin)
+    elif not want_cut and isinstance(made, Each):
+        begin = KnownValues.beginning(network, swept.kept, made, swept.plain, begin)
     results = _results(swept, iter(made), begin)
     return _shown(results, count if count > 0 else None) if progress else results
 

@@ -14,7 +14,8 @@ from ..files import read_file
 from ..network import Network
 from ..quantity import POINT
 from ..session.base import Part
-from ..sweeps.cases import Each, SweepResult, sweep
+from ..sweeps.cases import SweepResult, sweep
+from ..sweeps.each import Each
 from ..tables.sheet import cell_of, line, number_cell
 from ..text.events import case_line
 from ..text.lexical import NODE, Fault
