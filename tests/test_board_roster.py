@@ -31,7 +31,7 @@ WATER_WORDS = (
     "sink",
 )
 OWN_WORDS = """
-const parts = ["#head", "#picture-said", "#what", "#short", "#limit", "#worst", "#legend"];
+const parts = ["#head", "#picture-said", "#what", "#short", "#limit", "#best", "#worst", "#legend"];
 return parts.map((it) => {
   const part = document.querySelector(it).cloneNode(true);
   for (const form of part.querySelectorAll("form:has(#new-head), #costs")) form.remove();

@@ -194,8 +194,9 @@ def test_nothing_can_be_sent(tmp_path: Path) -> None:
 
 
 def test_what_is_not_tried_is_said(tmp_path: Path, monkeypatch: pytest.MonkeyPatch) -> None:
-    """Second ones beside a part of the bottleneck alone; and no losses in a network that is too
-    large to ask for them."""
+    """Second ones beside a part of the bottleneck alone, if each takes a solve by the program; and
+    no losses in a network that is too large to ask for them."""
+    monkeypatch.setenv("DMF_LIBRARY", "")
     monkeypatch.setattr(project_findings, "MOST_TRIED", 2)
     monkeypatch.setattr(project_findings, "LARGE", 15)
     desk = water_project(tmp_path)
@@ -203,7 +204,7 @@ def test_what_is_not_tried_is_said(tmp_path: Path, monkeypatch: pytest.MonkeyPat
     assert found.losses and found.losses.worst_arcs.more == len(
         [closed for closed, _ in wanted.values() if closed < 165]
     ) - len(found.losses.worst_arcs.losses)
-    gains = {name.partition(",")[0]: gain for name, gain in found.gains}
+    gains = {name.partition(",")[0]: gain for name, gain in found.gains.losses}
     assert gains == {name: wanted[name][1] - 165 for name in ("North rise", "Mill Lane")}
     said = "A second one was tried beside the first 2 of the 3 parts of the bottleneck"
     assert said in Page(report(desk)).text
@@ -211,6 +212,29 @@ def test_what_is_not_tried_is_said(tmp_path: Path, monkeypatch: pytest.MonkeyPat
     text = Page(report(desk)).text
     assert "There are too many pipes here to find what the loss of each would cost." in text
     assert findings(desk).tried.losses is None and "loses" not in text
+    desk.end()
+
+
+@pytest.mark.usefixtures("by_library")
+def test_the_best_to_have_twice(tmp_path: Path, monkeypatch: pytest.MonkeyPatch) -> None:
+    """The five of all parts of the bottleneck beside which a second one brings most, and how many
+    more bring something. By hand: each pipe from the well is as good as a wider one up to 50."""
+    monkeypatch.setattr(project_findings, "MOST_TRIED", 2)
+    names = ["Ash", "Birch", "Cedar", "Elm", "Fir", "Gorse", "Hazel", "Ivy"]
+    rows = [f"Well,{name},{30 - 3 * at},{name}\n{name},Town,50," for at, name in enumerate(names)]
+    rows[6] = "Well,Hazel,12,Hazel\nHazel,Town,12,"
+    (tmp_path / "ways.csv").write_text("from,to,litres,name\n" + "\n".join(rows) + "\n")
+    desk = new_project(tmp_path, "ways.csv")
+    page = Page(report(desk))
+    value = sum(30 - 3 * at for at in range(8))
+    gains = [20, 23, 24, 21, 18, 15, 0, 9]
+    ranked = sorted(zip(gains, names), key=lambda it: (-it[0], it[1]))
+    listed = rows_below(page, "with a second one beside it")
+    assert [(name.partition(",")[0], by, then) for name, by, then in listed] == [
+        (name, str(by), str(value + by)) for by, name in ranked[:5]
+    ]
+    assert "A second one was tried beside each part of the bottleneck" in page.text
+    assert findings(desk).tried.gains.more == 2
     desk.end()
 
 

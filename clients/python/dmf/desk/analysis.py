@@ -1,7 +1,7 @@
 """What each arc is worth, and what a greater value costs.
 
-What is lost without an arc is one answer for all of them. What a second one beside it brings is
-tried by a sweep, for each arc of the limit alone. A cheap way to a greater value is found greedily,
+What is lost without an arc is one answer for all of them, and so is what a second one beside it
+brings. A cheap way to a greater value is found greedily,
 by what a column of the table says each unit more costs at an arc, or a second arc beside it. It
 goes from limit to limit: it widens the cheapest arc of the present one, and where the value does
 not grow for another limit behind it, the cheapest arc of that too. Each value on it is a greatest
@@ -10,20 +10,17 @@ solvers."""
 
 from __future__ import annotations
 
-import contextlib
-import os
-from collections.abc import Generator, Iterable, Iterator, Mapping
+from collections.abc import Iterable, Iterator, Mapping
 from dataclasses import dataclass
 from decimal import Decimal
 
-from ..errors import CapacitiesPast64Bits, TooManyArcs
-from ..quantity import EXACT, LARGEST, Quantity, QuantityFault, magnitude, number_in, plain_text
-from ..sweeps.cases import SweepResult, sweep
+from ..quantity import EXACT, Quantity, QuantityFault, magnitude, number_in, plain_text
 from ..tables.titles import title_of
 from ..text.spelling import quoted_name
-from .steps import DeskFault, Node, Second, Trial
+from .seconds import seconds_of
+from .steps import DeskFault, Trial
 from .workspace import Desk
-from .worth import judge_greatest, losses
+from .worth import losses
 
 
 def trials_of(desk: Desk, numbers: Iterable[int]) -> Iterator[Trial]:
@@ -34,82 +31,6 @@ def trials_of(desk: Desk, numbers: Iterable[int]) -> Iterator[Trial]:
     seconds = seconds_of(desk, wanted)
     found = losses(desk, wanted)
     return (Trial(it.number, it.left, second.doubled) for it, second in zip(found, seconds))
-
-
-def seconds_of(desk: Desk, numbers: Iterable[int]) -> Generator[Second, None, None]:
-    """Return a sweep over these pipes: the greatest values if each alone has a second one beside
-    it. Each is tried on a copy of the network as it is at the call, on all processors. Raise a
-    `DeskFault` unless the flow is greatest and the pipes are open."""
-    judge_greatest(desk)
-    wanted = list(numbers)
-    for number in wanted:
-        desk.network.open_arcs(number)
-    desk.follow()
-    return _seconds_tried(desk, wanted)
-
-
-def _seconds_tried(desk: Desk, numbers: list[int]) -> Generator[Second, None, None]:
-    """Return the same, for open pipes and a greatest flow."""
-    held, value, cut = desk.network, desk.value, set(desk.cut_arcs())
-    # A second arc beside one that is not in the cut leaves the cut as it is, and so the value, if
-    # there is room for its capacity.
-    room = LARGEST - sum(
-        map(held.whole, (number for number, line in enumerate(held.lines, 1) if not line.is_closed))
-    )
-    has_room = {number: _second_size(desk, number) <= room for number in numbers}
-    cases = [_second_case(desk, number) for number in numbers if number in cut]
-    jobs = max(1, min(len(cases), len(os.sched_getaffinity(0))))
-    # The desk may change before the trials are asked for; each is of the network as it is now.
-    results, quantity = sweep(held.network, cases, jobs=jobs), held.measure.quantity
-
-    def found() -> Generator[Second, None, None]:
-        with contextlib.closing(results):
-            for number in numbers:
-                doubled = value if has_room[number] else None
-                if number in cut:
-                    greatest = _greatest_or_none(next(results))
-                    doubled = None if greatest is None else quantity(greatest)
-                yield Second(number, doubled)
-
-    return found()
-
-
-def _second_case(desk: Desk, number: int) -> list[tuple[object, ...]]:
-    """Return the commands that put a second one beside a pipe."""
-    network, whole = desk.network, desk.network.measure.whole
-    added = network.second(number)
-    adds = [
-        ("add", network.node_of(add.tail), network.node_of(add.head), whole(add.capacity))
-        for add in added
-    ]
-    follow = network.following(added)
-    return [*adds, *(("cap", network.handle(it.arc), whole(it.capacity)) for it in follow)]
-
-
-def _second_size(desk: Desk, number: int) -> int:
-    """Return by how much a second one beside a pipe raises the sum of the capacities."""
-    network, whole = desk.network, desk.network.measure.whole
-    added = network.second(number)
-    return sum(whole(add.capacity) for add in added) + sum(
-        whole(it.capacity) - network.whole(it.arc) for it in network.following(added)
-    )
-
-
-def _greatest(result: SweepResult[Node]) -> int:
-    """Return the greatest value of a case."""
-    if result.value is None:
-        raise DeskFault(f"what was tried failed: {result.refusal}")
-    return result.value
-
-
-def _greatest_or_none(result: SweepResult[Node]) -> int | None:
-    """Return the greatest value of a case, or None if the sum of the capacities would exceed 64
-    bits."""
-    return (
-        None
-        if isinstance(result.refusal, (CapacitiesPast64Bits, TooManyArcs))
-        else _greatest(result)
-    )
 
 
 TITLES = set("cost costs kosten cout coste price preis".split())

@@ -96,6 +96,9 @@ class Answers:
         The greatest value without each arc, and without each node, once these were asked for.
     pairs
         The worst pairs of pipes, by how many were asked for.
+    gains
+        What a second pipe beside each of the limit gains, or None while that is not known. Those
+        beside which no second one fits are left out.
     """
 
     inside: Sequence[int] | None = None
@@ -106,6 +109,7 @@ class Answers:
     net: Sequence[int] | None = None
     worth: dict[Part, ValuesWithout] = field(default_factory=dict)
     pairs: dict[int, PairsWithout] = field(default_factory=dict)
+    gains: dict[int, int] | None = None
 
     @property
     def knows_worth(self) -> bool:

@@ -11,9 +11,18 @@ from ..arcs import Arc
 from ..errors import Error, Refused
 from ..losses import marks_of
 from ..quantity import Quantity, moved
-from ..session.base import Part, ProblemColumns, Program, Ranked, ValuesWithout, WorstWithout
+from ..session.base import (
+    ArcColumns,
+    Part,
+    ProblemColumns,
+    Program,
+    Ranked,
+    ValuesWithout,
+    WorstWithout,
+)
 from ..tables.loader import LoadedProblem
 from ..tables.problem_networks import network_of_subject
+from ..text.lexical import LARGEST
 from .network_arcs import NetworkArcs
 from .steps import Add, Change, Close, Follow, MakePlace, Marks, Node, Reopen, Shut, Solve, Step
 
@@ -201,6 +210,22 @@ class LiveNetwork(NetworkArcs):
         They are given by their numbers."""
         marks = marks_of(arcs, self.network._kept.arc_count)
         return self.network._worst_without(Ranked.PAIRS, most, marks)
+
+    def room(self) -> int:
+        """Return by how much the sum of the capacities of the open arcs can grow, in the whole
+        numbers of the session."""
+        kept = self.network._kept
+        closed = sum(kept.capacities[number - 1] for number in kept.closed)
+        return LARGEST - sum(kept.capacities) + closed
+
+    def largest_capacity(self) -> int:
+        """Return the largest capacity that an arc has, or had before it was closed."""
+        return max(self.network._kept.capacities, default=0)
+
+    def gains(self, arcs: ArcColumns) -> array[int] | None:
+        """Return how much greater the greatest value is with each of these new arcs, or None if
+        the session does not find it."""
+        return self.network._asked_gains(arcs)
 
     def flows(self) -> array[int]:
         """Return the flow on each arc, in the whole numbers of the session: that on arc 1 first,

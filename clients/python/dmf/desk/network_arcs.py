@@ -184,11 +184,11 @@ class NetworkArcs(NetworkWords):
         found = [number for number, line in enumerate(self.lines, 1) if not line.is_replaced]
         if self.pipes.are_two_way:
             found = [number for number in found if not self.pipes.is_second(number)]
-        return (
-            [number for number in found if not self.role(number)]
-            if self.folding.has_roles
-            else found
-        )
+        if not self.folding.has_roles:
+            return found
+        # An arc of the table has no role, and most have no end at which an arc may have one.
+        ends_of, is_table = self.lines.ends_of, self.folding.inner_nodes.isdisjoint
+        return [number for number in found if is_table(ends_of(number)) or not self.role(number)]
 
     def opened_pipes(self) -> list[int]:
         """Return those of them that are open."""

@@ -35,6 +35,7 @@ class PageWords(NamedTuple):
     all_through: str
     place: str
     without: str
+    twice: str
     most: str
     flow: str
     idle: str
@@ -105,6 +106,7 @@ NETWORK = Words(
         all_through="bottleneck: lets through all it can",
         place="place",
         without="one of these places is shut",
+        twice="so much can be sent with a second one beside one of these",
         most="carries",
         flow="Flow",
         idle="nothing flows",
@@ -158,6 +160,7 @@ ROSTER = Words(
         all_through="bottleneck: cannot do more that day",
         place="person, day or shift",
         without="one of these is left out",
+        twice="so much can be staffed if one of these allows twice as much",
         most="allows",
         flow="Staffed",
         idle="not taken",

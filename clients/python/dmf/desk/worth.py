@@ -71,7 +71,7 @@ def left_without(desk: Desk, worth: ValuesWithout, number: int) -> int:
     what flows back. Without one of them it is the greatest at 0 and on one side of 0; so at 0,
     which is without both, it is the lesser of these.
     """
-    return min(worth.without[arc - 1] for arc in desk.network.pipes.arcs(number))
+    return min([worth.without[arc - 1] for arc in desk.state.network.pipes.arcs(number)])
 
 
 def left_without_place(desk: Desk, worth: ValuesWithout, place: Place) -> int:
@@ -82,8 +82,8 @@ def left_without_place(desk: Desk, worth: ValuesWithout, place: Place) -> int:
     nothing flows through the second one either. If a problem has other arcs into the second one,
     both are shut on a desk beside this one.
     """
-    network = desk.network
-    if {network.source, network.sink} & {*place}:
+    network = desk.state.network
+    if network.source in place or network.sink in place:
         return 0
     if place.exit in network.entered_exits:
         with desk.aside() as other:
@@ -96,43 +96,51 @@ def left_without_place(desk: Desk, worth: ValuesWithout, place: Place) -> int:
 def losses(desk: Desk, numbers: Iterable[int]) -> list[Loss]:
     """Return what is lost without each of these pipes alone. Raise a `DeskFault` unless the flow is
     greatest."""
-    judge_greatest(desk)
-    worth = worth_of(desk, Part.ARC)
-    left = ((number, left_without(desk, worth, number)) for number in numbers)
-    return _losses(desk, worth.value, left)
+    return _losses(desk, _left(desk, numbers))
 
 
 def losses_of_places(desk: Desk, nodes: Iterable[int]) -> list[Loss]:
     """Return what is lost without each of the places of these nodes alone. Raise a `DeskFault`
     unless the flow is greatest."""
+    return _losses(desk, _left_of_places(desk, nodes))
+
+
+def _left(desk: Desk, numbers: Iterable[int]) -> list[tuple[int, int]]:
+    """Return what is left without each of these pipes, with its number."""
+    judge_greatest(desk)
+    worth = worth_of(desk, Part.ARC)
+    return [(left_without(desk, worth, number), number) for number in numbers]
+
+
+def _left_of_places(desk: Desk, nodes: Iterable[int]) -> list[tuple[int, int]]:
     judge_greatest(desk)
     worth, place_of = worth_of(desk, Part.NODE), desk.network.names.place_of
-    left = ((node, left_without_place(desk, worth, place_of(node))) for node in nodes)
-    return _losses(desk, worth.value, left)
+    return [(left_without_place(desk, worth, place_of(node)), node) for node in nodes]
 
 
-def _losses(desk: Desk, value: int, left: Iterable[tuple[int, int]]) -> list[Loss]:
+def _losses(desk: Desk, left: Iterable[tuple[int, int]]) -> list[Loss]:
     """Return losses by what is left of the value without each of some things."""
-    quantity = desk.network.measure.quantity
-    return [Loss(number, quantity(it), quantity(value - it)) for number, it in left]
+    measure = desk.network.measure
+    quantity, value = measure.quantity, measure.whole(desk.value)
+    return [Loss(number, quantity(it), quantity(value - it)) for it, number in left]
 
 
 def worst(desk: Desk, most: int) -> tuple[list[Loss], int]:
     """Return the `most` pipes of the table whose loss is greatest, with what each loses, and how
     many other pipes have a loss. Raise a `DeskFault` unless the flow is greatest."""
-    return _worst(losses(desk, desk.network.pictured()), most)
+    return _worst(desk, _left(desk, desk.network.pictured()), most)
 
 
 def worst_places(desk: Desk, most: int) -> tuple[list[Loss], int]:
     """Return the same of the places, without the source and the sink. If several places are sources
     or sinks, these are among the places."""
-    return _worst(losses_of_places(desk, desk.network.inner_places()), most)
+    return _worst(desk, _left_of_places(desk, desk.network.inner_places()), most)
 
 
-def _worst(found: list[Loss], most: int) -> tuple[list[Loss], int]:
-    costly = [it for it in found if it.loss]
-    chosen = nsmallest(most, costly, key=lambda it: (it.left, it.number))
-    return chosen, len(costly) - len(chosen)
+def _worst(desk: Desk, left: list[tuple[int, int]], most: int) -> tuple[list[Loss], int]:
+    value = desk.network.measure.whole(desk.value)
+    costly = [it for it in left if it[0] < value]
+    return _losses(desk, nsmallest(most, costly)), max(0, len(costly) - most)
 
 
 def worst_pairs(desk: Desk, most: int) -> list[PairLoss]:

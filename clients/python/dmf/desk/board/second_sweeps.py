@@ -8,9 +8,10 @@ import threading
 import time
 from collections.abc import Generator
 
-from ..analysis import seconds_of
+from ..seconds import seconds_of
 from ..steps import Second
 from ..workspace import Desk
+from .worth_finder import MOST_IN_PROCESS
 
 # How long a request may sweep before it answers with the results so far, in seconds.
 PORTION = 0.15
@@ -89,7 +90,10 @@ class SecondSweeps:
             return []
         with self._lock:
             self._end.cancel()
-            going_on = self._sweep or BackgroundSweep(seconds_of(self._desk, numbers))
+            is_together = len(self._desk.network.lines) <= MOST_IN_PROCESS
+            going_on = self._sweep or BackgroundSweep(
+                seconds_of(self._desk, numbers, is_together=is_together)
+            )
             left = self._left or numbers
             # If this raises, the sweep is over.
             self._sweep, self._left, self.is_going = None, [], False

@@ -17,6 +17,7 @@ from ..demands import demand_sentence, limited_amounts, total
 from ..expressions import amount, successors
 from ..pipes import TwoWayPipe, other_way, way_sign
 from ..project.scenarios import Scenarios
+from ..seconds import MOST_SECONDS, best_seconds
 from ..steps import Second
 from ..subject_words import words_of
 from ..workspace import Desk
@@ -189,9 +190,14 @@ def demands_view(desk: Desk) -> Json:
 
 
 def arc_view(desk: Desk, number: int) -> Json:
-    """Return the pipe that an arc is of. Raise a `DeskFault` if no arc has this number."""
-    desk.network.line(number)
-    return with_worth(desk, arc_views(desk, [desk.network.pipes.number(number)]))[0]
+    """Return the pipe that an arc is of, with what a second one beside it gains, which is empty
+    while that is not known. Raise a `DeskFault` if no arc has this number."""
+    network = desk.network
+    network.line(number)
+    pipe = network.pipes.number(number)
+    gain = (desk.state.answers.gains or {}).get(pipe)
+    won = "" if gain is None else plain_text(network.measure.quantity(gain))
+    return {**with_worth(desk, arc_views(desk, [pipe]))[0], "won": won}
 
 
 def arc_views(desk: Desk, numbers: Sequence[int]) -> list[Json]:
@@ -263,18 +269,22 @@ NOT_KNOWN = {"without": "", "lost": ""}
 
 def worth_view(desk: Desk) -> Json:
     """Return the arcs and the places that are worst to lose, how many more of each cost something,
-    the worst pairs, and the loss of each arc of the table by its number: of many, those of the
-    worst. Nothing is known if the search failed, or the network is too large."""
+    the worst pairs, the arcs that are best to have twice, and the loss of each arc of the table by
+    its number: of many, those of the worst. Nothing is known if the search failed, or the network
+    is too large."""
     if not desk.state.answers.knows_worth:
         nothing: Json = {"worst": [], "more": 0}
-        return {"is_known": False, **nothing, "places": nothing, "pairs": None, "losses": {}}
-    (found, more), pictured = worst(desk, MOST_LOSSES), desk.network.pictured()
-    told = losses(desk, pictured) if len(pictured) <= MOST_LOSSES else found
+        unknown: Json = {"places": nothing, "seconds": None, "pairs": None, "losses": {}}
+        return {"is_known": False, **nothing, **unknown}
+    found, more = worst(desk, MOST_LOSSES)
+    pictured = [] if more else desk.network.pictured()
+    told = losses(desk, pictured) if len(found) <= len(pictured) <= MOST_LOSSES else found
     return {
         "is_known": True,
         "worst": with_worth(desk, arc_views(desk, [it.number for it in found[:MOST_WORST]])),
         "more": more + max(0, len(found) - MOST_WORST),
         "places": _worst_places(desk),
+        "seconds": _best_seconds(desk),
         "pairs": _worst_pairs(desk),
         "losses": {it.number: plain_text(it.loss) for it in told},
     }
@@ -308,6 +318,23 @@ def _worst_pairs(desk: Desk) -> list[Json] | None:
         }
         for it in worst_pairs(desk, MOST_PAIRS)
     ]
+
+
+def _best_seconds(desk: Desk) -> Json | None:
+    """Return the arcs beside which a second one gains most, and how many more gain something; None
+    if that is not known."""
+    found = best_seconds(desk, MOST_SECONDS)
+    if found is None:
+        return None
+    best, more = found
+    arcs = arc_views(desk, [it.number for it in best])
+    return {
+        "best": [
+            {**arc, "doubled": plain_text(it.doubled), "gain": plain_text(it.gain)}
+            for arc, it in zip(arcs, best)
+        ],
+        "more": more,
+    }
 
 
 def costs_view(desk: Desk, column: str, to: str, second: str) -> Json:

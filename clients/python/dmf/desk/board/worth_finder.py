@@ -1,5 +1,5 @@
-"""Find what each arc and each place is worth, and the worst pairs of arcs, beside the requests of a
-page, so that none waits for it."""
+"""Find what each arc and each place is worth, where a second arc helps most, and the worst pairs of
+arcs, beside the requests of a page, so that none waits for it."""
 
 from __future__ import annotations
 
@@ -23,6 +23,7 @@ from ...session.base import (
 from ...session.fresh import values_without, worst_without
 from ...session.runners import chosen, program_of
 from ..answers import LARGE, Answers
+from ..seconds import SecondArcs, gains_by_pipe, second_arcs
 from ..workspace import Desk
 from ..worth import MOST_PAIRED, MOST_PAIRS, pairs_of_pipes, pipes_by_arc
 
@@ -36,22 +37,24 @@ MOST_ASKED = 20_000
 
 
 class WorthRun:
-    """A search for the value without each arc and each node of one state, and then for the pairs of
-    pipes that cost most to lose together, in a thread of its own. Its results become part of that
-    state's answers."""
+    """A search for the value without each arc and each node of one state, for what second pipes
+    gain, and then for the pairs of pipes that cost most to lose together, in a thread of its own.
+    Its results become part of that state's answers."""
 
     def __init__(
         self,
         answers: Answers,
         problem: ProblemColumns,
         program: Program,
+        seconds: SecondArcs,
         pipes: Mapping[int, int] | None,
     ) -> None:
-        """Begin the search. `pipes` has the pipe of each arc, or is None if the network is too
-        large to find pairs."""
+        """Begin the search. `seconds` are the second arcs beside the pipes of the limit. `pipes`
+        has the pipe of each arc, or is None if the network is too large to find pairs."""
         self.answers = answers
         self._problem = problem
         self._program = program
+        self._seconds = seconds
         self._pipes = pipes
         # What is running now.
         self._process: subprocess.Popen[bytes] | None = None
@@ -70,7 +73,9 @@ class WorthRun:
                 self._find_by_program()
 
     def _find_by_library(self, library: Runner) -> None:
-        session = library.begin(self._problem, 0)
+        # A case is undone with its solve.
+        steps = 1 + max(map(len, self._seconds.cases.values()), default=0)
+        session = library.begin(self._problem, steps)
         self._session = session
 
         marks = marks_of(self._pipes or {}, len(self._problem.tails))
@@ -84,12 +89,24 @@ class WorthRun:
         try:
             if self._is_over:
                 raise session.ended()
-            session.step(("solve",))
+            value = session.step(("solve",))
+            self.answers.gains = self._gains(session, value)
             found = {part: session.values_without(part) for part in Part}
             self.answers.worth = {part: it for part, it in found.items() if it is not None}
             self._find_pairs(worst)
         finally:
             session.end()
+
+    def _gains(self, session: Session, value: int) -> dict[int, int] | None:
+        """Return what second pipes gain: all together, and those that are more than new arcs one by
+        one. None if the library has no room to find them."""
+        seconds, tried = self._seconds, list[int]()
+        gains = session.gains(seconds.arcs)
+        if gains is None:
+            return None
+        session.try_cases([*seconds.cases.values()], value, tried)
+        found = gains_by_pipe(seconds, gains)
+        return {**found, **{number: it - value for number, it in zip(seconds.cases, tried)}}
 
     def _find_by_program(self) -> None:
         program, problem = program_of(self._program), self._problem
@@ -133,8 +150,9 @@ class WorthRun:
 
 
 class WorthFinder:
-    """A finder of the value without each arc and each node, and of the worst pairs, in the present
-    state of a desk. A run for an earlier state is ended. Calls are made one after another."""
+    """A finder of the value without each arc and each node, of the gains of second pipes and of the
+    worst pairs, in the present state of a desk. A run for an earlier state is ended. Calls are made
+    one after another."""
 
     def __init__(self, desk: Desk) -> None:
         self._desk = desk
@@ -146,13 +164,15 @@ class WorthFinder:
         change."""
         network, answers = self._desk.network, self._desk.state.answers
         arcs = len(network.lines)
-        is_known = answers.knows_worth and (MOST_PAIRS in answers.pairs or arcs > MOST_PAIRED)
+        is_known = answers.knows_worth and answers.gains is not None
+        is_known = is_known and (MOST_PAIRS in answers.pairs or arcs > MOST_PAIRED)
         if is_known or arcs >= LARGE:
             return False
         if self._run is None or self._run.answers is not answers:
             self.end()
             pipes = pipes_by_arc(network) if arcs <= MOST_PAIRED else None
-            self._run = WorthRun(answers, network.problem(), network.program, pipes)
+            seconds = second_arcs(network, self._desk.cut_arcs())
+            self._run = WorthRun(answers, network.problem(), network.program, seconds, pipes)
         return not self._run.is_over_within(PATIENCE)
 
     def end(self) -> None:

@@ -19,10 +19,10 @@ from ...session import executable
 from ...session.base import Program
 from ...text.lexical import display
 from ...text.table_comments import DEMAND
-from ..analysis import seconds_of
 from ..answers import LARGE
 from ..demands import limited_amounts
 from ..export import problem, taken
+from ..seconds import MOST_SECONDS, are_found_together, seconds_of
 from ..steps import DeskFault
 from ..subject_words import words_of
 from ..workspace import Desk
@@ -34,8 +34,8 @@ from .report_picture import HIGH, LOW, readable
 from .report_text import report_lines
 from .scenarios import BASE, Scenarios
 
-# How many arcs and places are listed as the worst to lose, beside how many arcs of the limit a
-# second one is tried, and how long a check may take, in seconds.
+# How many arcs and places are listed as the worst to lose; beside how many arcs of the limit a
+# second one is tried, if each takes a solve; and how long a check may take, in seconds.
 MOST_ARCS, MOST_PLACES, MOST_TRIED = 10, 5, 300
 PATIENCE = 60
 
@@ -134,17 +134,18 @@ def _sections(desk: Desk) -> Iterator[Section]:
 def _tried(desk: Desk) -> Tried:
     """Return what the arcs and places of the present state mean for its value."""
     value, name, cut = desk.value, _arc_name(desk), [*desk.cut_arcs()]
-    tried = cut[:MOST_TRIED]
+    tried = cut if are_found_together(desk) else cut[:MOST_TRIED]
     gains = [
         (name(it.arc), EXACT.subtract(it.doubled, value))
         for it in seconds_of(desk, tried)
         if it.doubled is not None and it.doubled > value
     ]
+    gains.sort(key=lambda it: -it[1])
     return Tried(
         desk.state.scenario or "the plan",
         value,
         _losses(desk),
-        tuple(sorted(gains, key=lambda it: -it[1])),
+        Worst(tuple(gains[:MOST_SECONDS]), max(0, len(gains) - MOST_SECONDS)),
         len(cut),
         len(tried),
     )

@@ -41,7 +41,7 @@ class Section:
 class Worst(NamedTuple):
     """The arcs, the places or the pairs whose loss costs most, by their names, with what each
     loses, the greatest loss first; and how many others cost something, which is 0 for pairs, since
-    they are not counted."""
+    they are not counted. The same is told of arcs beside which a second one gains most."""
 
     losses: tuple[tuple[str, Quantity], ...]
     more: int
@@ -62,13 +62,13 @@ class WorstLosses(NamedTuple):
 @dataclass(frozen=True)
 class Tried:
     """What arcs and places mean for the value of a scenario. `losses` is None if the network is too
-    large to ask for them. `gains` are what second ones bring beside arcs of the limit, the largest
-    first; of its `limit` arcs, the first `tried` were tried."""
+    large to ask for them. `gains` are what second ones bring beside arcs of the limit; of its
+    `limit` arcs, the first `tried` were tried."""
 
     scenario: str
     value: Quantity
     losses: WorstLosses | None
-    gains: tuple[tuple[str, Quantity], ...]
+    gains: Worst
     limit: int
     tried: int
 

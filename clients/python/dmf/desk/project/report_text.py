@@ -237,8 +237,7 @@ def _columns(found: Findings) -> Iterator[_Column]:
         none = "Shut alone, no place costs anything."
         yield _Column(found.words.shut, "loses", places, EXACT.subtract, none)
     none = "A second one beside any of them brings nothing."
-    gains = Worst(tried.gains, 0)
-    yield _Column("with a second one beside it", "gains", gains, EXACT.add, none)
+    yield _Column("with a second one beside it", "gains", tried.gains, EXACT.add, none)
 
 
 def _reckoned(found: Findings) -> Iterator[str]:

@@ -32,6 +32,7 @@ function ends(arc) {
 export function secondOne(arc) {
   // Whatever is not in a bottleneck can be as wide as it likes.
   if (!arc.limit) return "+0";
+  if (arc.won) return `+${arc.won}`;
   const found = now.seconds?.found.get(arc.number);
   if (found) return found.won ? `+${found.won}` : found.doubled ? "+0" : "too large";
   if (now.seconds && !now.seconds.isOver) return "..";

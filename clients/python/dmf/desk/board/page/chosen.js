@@ -33,12 +33,19 @@ export async function showChosen() {
   replace(at("what"), arc ? aboutArc(arc) : aboutPlace(told));
 }
 
-/** Says what is left without the selected arc or place, once that is known. All else stays, including what is being typed. */
+/**
+ * Says what is left without the selected arc or place, and what a second one beside the arc brings, once that is known. All else stays,
+ * including what is being typed.
+ */
 export async function showClosing() {
   const chosen = theChoice();
   if (!chosen || !document.getElementById("closing")) return;
   const told = await ask(address(chosen), undefined, true), shown = document.getElementById("closing");
-  if (told && shown && chosen === theChoice()) shown.textContent = leftWithout(told);
+  if (!told || !shown || chosen !== theChoice()) return;
+  shown.textContent = leftWithout(told);
+  if (!chosen.arc) return;
+  arc = told;
+  showSecond();
 }
 
 /** Says what a second one beside the selected arc brings, as far as that is known. */

@@ -3,16 +3,17 @@
  * @typedef {{ number: number, node: number, tail_node: number, head_node: number, name: string, label: string, short: string, tail: string,
  *   head: string,
  *   flow: string, capacity: string, way: string, other_way: string, there: string, back: string, closed: boolean, replaced: boolean,
- *   unlimited: boolean, full: boolean, limit: boolean, without: string, lost: string }} Arc
+ *   unlimited: boolean, full: boolean, limit: boolean, without: string, lost: string, won?: string }} Arc
  *   `way` is empty unless it leads both ways: ">" if it flows from tail to head, "<" if back, "-" if not at all; and `other_way` says what
- *   it can carry the other way, if that is something else; `there` and `back` are its capacities, if both ways are open
+ *   it can carry the other way, if that is something else; `there` and `back` are its capacities, if both ways are open; `won` is what a
+ *   second one beside the selected arc gains, once that is known
  * @typedef {Arc & { kind: string }} Role what a place gives, takes or lets through at most, and which of these it is
  * @typedef {{ node: number, name: string, in: string, out: string, roles: Role[], is_source: boolean, is_sink: boolean, shut: boolean,
  *   open: boolean, side: boolean, entering: Arc[], leaving: Arc[], more: [number, number], without: string, lost: string }} Place
  *   `more`: how many other arcs enter it, and leave it
  * @typedef {{ arc: string, task: string, picture: string, choose: string, short: string, met: string, source: string, sink: string,
- *   all_given: string, all_taken: string, all_through: string, place: string, without: string, most: string, flow: string, idle: string,
- *   amount: string, legend: string, enters: string, leaves: string, rest: string, shut: string, again: string, shutting: string,
+ *   all_given: string, all_taken: string, all_through: string, place: string, without: string, twice: string, most: string, flow: string,
+ *   idle: string, amount: string, legend: string, enters: string, leaves: string, rest: string, shut: string, again: string, shutting: string,
  *   is_shut: string, is_open: string, through: string, added: string, each: string, flowing: string, flows: string, fits: string,
  *   forms: string, severed: string, crosses: string, crosses_one: string, demand_titles: string[], shades: Record<string, string> }} Words
  *   the words for this network: of pipes and places, or of a roster's people and shifts
