@@ -1,13 +1,14 @@
-"""The headline of a board's page: a compact card at each width, whose cut text is whole for screen
-readers, in headless Chromium."""
+"""The headline of a board's page: a compact card at each width, in which no text is cut, and whose
+names that have no room are there for screen readers, in headless Chromium."""
 
 from __future__ import annotations
 
+import re
 from pathlib import Path
 from typing import Any
 
 import pytest
-from board_pages import Page
+from board_pages import Page, set_width
 from board_running import board
 from desk_shared import PIPES, ROOT
 from test_board_access import as_before, judge_names, show
@@ -35,6 +36,25 @@ return [[head.left, head.top, head.right, head.bottom], fold.width ? fold.left :
 # Each of these asks for 10 more than its pipe carries, and the last for 40 more.
 PLACES = [f"Waterworks of the {word} District" for word in ("North", "South", "East", "West")]
 HOSPITAL = "Hospital"
+# Of the texts of the headline: what is seen, the tops and bottoms of its pieces, and whether all of
+# them lie within the element and the free part.
+SEEN = """
+const free = arguments[0];
+return ["value", "demands", "show-limit"].map((id) => {
+  const host = document.getElementById(id), box = host.getBoundingClientRect();
+  const range = document.createRange();
+  const seen = host.querySelector(":scope > [aria-hidden]") ?? host;
+  range.selectNodeContents(seen);
+  const rects = [...range.getClientRects()];
+  const right = Math.min(box.right, free) + 1;
+  const isWhole = rects.every((it) => it.left >= box.left - 1 && it.right <= right
+    && it.top >= box.top - 6 && it.bottom <= box.bottom + 6);
+  return [seen.innerText, rects.map(({ top, bottom }) => [top, bottom]), isWhole];
+});
+"""
+SUPPLY = ROOT / "examples/supply"
+ENDS = ("sources", "stock"), ("sinks", "orders")
+ROTA = str(ROOT / "examples/rota/rota.csv"), "--shift", "8", "--daily", "1"
 
 
 def town(folder: Path) -> list[str]:
@@ -123,8 +143,7 @@ def test_all_that_is_short(driver: Any, tmp_path: Path) -> None:
 
 def test_a_roster(driver: Any) -> None:
     """Of a roster it says how much can be staffed."""
-    rota = str(ROOT / "examples/rota/rota.csv")
-    with board(rota, "--shift", "8", "--daily", "1") as it:
+    with board(*ROTA) as it:
         show(driver, 400, "light")
         page = Page(driver, it.address)
         judge_head(page, 400)
@@ -148,3 +167,68 @@ def test_nothing_is_short(driver: Any, width: int) -> None:
         judge_head(page, width)
         page.by_role("button", "Undo")
         as_before(driver)
+
+
+def judge_whole(page: Page) -> list[str]:
+    """No text of the headline that is seen is cut, and the value has two lines at most. Returns the
+    texts."""
+    free = page.driver.execute_script(HEAD)[1]
+    seen = page.driver.execute_script(SEEN, free)
+    for text, _, is_whole in seen:
+        assert is_whole, text
+    assert lines(seen[0][1]) <= 2 and lines(seen[1][1]) <= 1
+    return [str(text) for text, _, _ in seen]
+
+
+def counted(names: str) -> int:
+    """How many places are meant by `Anna, Ben and 3 more` or `5 places`."""
+    parts = re.split(", | and ", names)
+    return sum(int(it.split()[0]) if re.fullmatch(r"\d+ (more|places)", it) else 1 for it in parts)
+
+
+def test_many_ends(driver: Any) -> None:
+    """With four sources and eight sinks, three of them short, the value, its unit, the bottleneck
+    and what is short most are seen whole at each width, also after the window has changed; lists of
+    names have fewer where there is less room, and count the others."""
+    words = str(SUPPLY / "routes.csv"), *(f"--{it}={SUPPLY}/{file}.csv" for it, file in ENDS)
+    with board(*words) as it:
+        set_width(driver, 1280)
+        page = Page(driver, it.address)
+        depot = next(at for at in it.told("find?text=East+Depot")["found"])
+        it.do(what="shut", node=depot["node"])
+        page.wait(lambda: page.value() == 126)
+        found = {}
+        for width in (*WIDTHS, 1280):
+            set_width(driver, width)
+            page.wait(lambda now=width: page.driver.execute_script("return innerWidth") == now)
+            judge_head(page, width)
+            value, short, limit = judge_whole(page)
+            match = re.fullmatch(
+                "126 of 150 pallets can be sent from (.+) to (.+), and not more.", value
+            )
+            assert match and [*map(counted, match.groups())] == [4, 8], value
+            assert short.startswith("Short: Dock 10") and counted(short) == 3
+            assert re.fullmatch(r"Bottleneck: \d+ parts", limit)
+            assert found.setdefault(width, value) == value
+        as_before(driver)
+
+
+@pytest.mark.parametrize("width", WIDTHS)
+def test_long_names(driver: Any, tmp_path: Path, width: int) -> None:
+    """The same holds for names that have no room at all, and for a roster with one."""
+    long = "The Department of " * 8 + "Anna"
+    (tmp_path / "rota.csv").write_text(f"name,hours,Mon,Tue\nneeded,,1,2\n{long},8,x,x\n")
+    (tmp_path / "pipes.csv").write_text(f"from,to,l/s\n{long},Mill,20\nMill,{long} II,30\n")
+    roster = f"{tmp_path}/rota.csv", "--shift", "8", "--daily", "1"
+    for words, said, short in (
+        (town(tmp_path), "100 of 180 l/s can be sent", f"Short: {HOSPITAL} 40"),
+        (roster, "8 of 24 hours can be staffed", "Short: "),
+        ([f"{tmp_path}/pipes.csv"], "20 l/s can be sent, and not more.", ""),
+    ):
+        with board(*words) as it:
+            show(driver, width, "light")
+            page = Page(driver, it.address)
+            found = judge_whole(page)
+            assert found[0].startswith(said) and found[1].startswith(short)
+            driver.get("about:blank")
+    as_before(driver)

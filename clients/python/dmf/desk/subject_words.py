@@ -3,27 +3,29 @@ to place, and those of a roster, in which people take shifts."""
 
 from __future__ import annotations
 
-from collections.abc import Iterable
+from collections.abc import Iterable, Sequence
 from typing import NamedTuple
 
 from ..tables.roster_words import is_of_roster
-from ..text.table_comments import DEMAND, LIMIT, SUPPLY
+from ..text.table_comments import DEMAND, LIMIT, MOST_ENDS, SUPPLY, listed
 from .directory import ArcNames, Directory
 
 
 class PageWords(NamedTuple):
-    """The sentences and titles that only a page has. `task` says what the value is, `picture` what
-    the picture shows of it, `choose` what can be selected, and `without` when a place counts as
-    lost; `short` is the title of what lacks something, and `met` says that nothing does; `source`
-    and `sink` say what a place is, and `all_given`, `all_taken` and `all_through` what its limit in
-    the bottleneck means; `most` is the title of what parts of the bottleneck carry, `flow`, `idle`
-    and `amount` are of a pipe that is selected, and `legend` explains its numbers; `enters` and
-    `leaves` are of a place, `rest` of what its list leaves out, and `shut`, `again`, `shutting`,
-    `is_shut`, `is_open` and `through` of shutting it and of its end; `added` is asked of a new
-    pipe, and `each` of all that are chosen, of which `flowing` says what they do; `flows` and
-    `fits` are titles of the table, and `forms` examples of its filter."""
+    """The sentences and titles that only a page has. `task` says what the value is, and
+    `brief_task` does so without names; `picture` says what the picture shows of it, `choose` what
+    can be selected, and `without` when a place counts as lost; `short` is the title of what lacks
+    something, and `met` says that nothing does; `source` and `sink` say what a place is, and
+    `all_given`, `all_taken` and `all_through` what its limit in the bottleneck means; `most` is the
+    title of what parts of the bottleneck carry, `flow`, `idle` and `amount` are of a pipe that is
+    selected, and `legend` explains its numbers; `enters` and `leaves` are of a place, `rest` of
+    what its list leaves out, and `shut`, `again`, `shutting`, `is_shut`, `is_open` and `through` of
+    shutting it and of its end; `added` is asked of a new pipe, and `each` of all that are chosen,
+    of which `flowing` says what they do; `flows` and `fits` are titles of the table, and `forms`
+    examples of its filter."""
 
     task: str
+    brief_task: str
     picture: str
     choose: str
     short: str
@@ -56,6 +58,20 @@ class PageWords(NamedTuple):
     flows: str
     fits: str
     forms: str
+
+    def tasks(self, sources: Sequence[str], sinks: Sequence[str]) -> list[str]:
+        """Return the texts that say what the value is, the longest first: with the names of these
+        sources and sinks, with fewer of them, with their numbers, and without them."""
+
+        def counted(names: Sequence[str]) -> str:
+            return names[0] if len(names) == 1 else f"{len(names):,} {self.place}s"
+
+        told = [
+            self.task.format(source=listed(sources, most), sink=listed(sinks, most))
+            for most in (MOST_ENDS, 2, 1)
+        ]
+        fewer = self.task.format(source=counted(sources), sink=counted(sinks))
+        return [*dict.fromkeys([*told, fewer, self.brief_task])]
 
 
 class Words(NamedTuple):
@@ -95,6 +111,7 @@ class Words(NamedTuple):
 NETWORK = Words(
     page=PageWords(
         task="can be sent from {source} to {sink}",
+        brief_task="can be sent",
         picture="flow from {source} to {sink}",
         choose="Click a {arc} or a place in the picture, or find one by its name.",
         short="Too little arrives",
@@ -149,6 +166,7 @@ NETWORK = Words(
 ROSTER = Words(
     page=PageWords(
         task="can be staffed",
+        brief_task="can be staffed",
         picture="are staffed",
         choose="Click a person, a day or a shift in the picture, or find one by its name.",
         short="Not fully staffed",

@@ -106,6 +106,7 @@ def words_view(desk: Desk) -> Json:
     network = desk.network
     words = words_of(network.subject.notes)
     noun, unit = network.subject.noun or "connection", network.measure.told_unit
+    ends = network.sources, network.sinks
     filled = {
         "source": network.told_source,
         "sink": network.told_sink,
@@ -115,6 +116,7 @@ def words_view(desk: Desk) -> Json:
     }
     return {
         **{name: text.format(**filled) for name, text in words.page._asdict().items()},
+        "tasks": words.page.tasks(*(list(map(network.names.node, it)) for it in ends)),
         "arc": noun,
         "severed": words.severed.format(**filled),
         "crosses": words.crosses,

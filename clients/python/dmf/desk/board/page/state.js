@@ -11,7 +11,7 @@
  * @typedef {{ node: number, name: string, in: string, out: string, roles: Role[], is_source: boolean, is_sink: boolean, shut: boolean,
  *   open: boolean, side: boolean, entering: Arc[], leaving: Arc[], more: [number, number], without: string, lost: string }} Place
  *   `more`: how many other arcs enter it, and leave it
- * @typedef {{ arc: string, task: string, picture: string, choose: string, short: string, met: string, source: string, sink: string,
+ * @typedef {{ arc: string, tasks: string[], picture: string, choose: string, short: string, met: string, source: string, sink: string,
  *   all_given: string, all_taken: string, all_through: string, place: string, without: string, twice: string, most: string, flow: string,
  *   idle: string, amount: string, legend: string, enters: string, leaves: string, rest: string, shut: string, again: string, shutting: string,
  *   is_shut: string, is_open: string, through: string, added: string, each: string, flowing: string, flows: string, fits: string,

@@ -1,10 +1,11 @@
 /**
- * The headline: what can be sent, what is short, the bottleneck, and what the last steps changed. It has at most three lines, or four if
- * it is narrow; text that is cut there is whole for screen readers, and stands in the panel.
+ * The headline: what can be sent, what is short, the bottleneck, and what the last steps changed. It has at most three lines, or five if
+ * it is narrow; names that have no room there are left out, but not for screen readers, and stand in the panel.
  * @typedef {import("./state.js").State} State
  */
 import { pickPlace } from "./choice.js";
 import { at, fill, make, numberCell, onClick, replaceAlike } from "./elements.js";
+import { heedRoom, showFitting } from "./fitting.js";
 import { act, caption, noun, present, units } from "./state.js";
 import { fileName, grouped, listed, upper } from "./words.js";
 
@@ -13,23 +14,23 @@ const MOST_SHORT = 3;
 
 /** @param {State} state */
 function showValue(state) {
-  const asked = state.asked && ` of ${state.asked}`;
-  at("value").replaceChildren(make("strong", state.value), `${asked}${units()} ${state.words.task}, and not more.`);
-  at("value").title = at("value").textContent ?? "";
   at("since").hidden = !state.at;
   const [by, rest] = state.by === "no change" ? ["as much", " as at the beginning"] : [state.by, " than at the beginning"];
   at("since").replaceChildren(by, make("span", rest, { class: "rest" }));
   at("since").dataset.by = state.by.split(" ").pop();
+  const asked = state.asked && ` of ${state.asked}`;
+  showFitting(at("value"), state.words.tasks.map((task) => `${asked}${units()} ${task}, and not more.`), state.value);
 }
 
 /** @param {State} state */
 function showShort(state) {
-  const names = state.short.slice(0, MOST_SHORT).map((it) => `${it.name} ${it.missing}`);
+  const names = state.short.slice(0, MOST_SHORT).map((it) => `${it.name} ${it.missing}`), count = state.short_count;
+  const [place, , gets] = state.words.demand_titles, all = `${grouped(count)} ${place}${count === 1 ? "" : "s"}`;
+  const texts = [...names.map((_, left) => listed(names.slice(0, names.length - left), count)), all];
   at("demands").hidden = !state.demands;
-  at("demands").textContent = names.length ? `Short: ${listed(names, state.short_count)}` : state.words.met;
+  showFitting(at("demands"), names.length ? texts.map((text) => `Short: ${text}`) : [state.words.met]);
   at("short").hidden = !names.length;
   at("short-head").textContent = state.words.short;
-  const [place, , gets] = state.words.demand_titles;
   fill("short-table", caption(), [upper(place), gets, "short"], state.short.map((it) => [
     pickPlace(it), numberCell(`${it.flow} of ${it.limit}`), numberCell(it.missing)]));
 }
@@ -40,12 +41,12 @@ export function showSummary(state) {
   document.title = `${state.value} ${fileName(state.title)}${named}`;
   at("title").title = state.title;
   at("title").textContent = `${fileName(state.title)}${named}`;
-  showValue(state);
-  showShort(state);
   at("show-limit").hidden = !state.limit_count;
   // The bottleneck may also contain what a place gives, takes or lets through.
   const word = state.limit.some((arc) => arc.node) ? "part" : noun();
   at("show-limit").textContent = `Bottleneck: ${grouped(state.limit_count)} ${word}${state.limit_count === 1 ? "" : "s"}`;
+  showValue(state);
+  showShort(state);
   at("legend").textContent = state.words.legend;
   at("notes").hidden = !state.notes.length;
   at("notes").lastElementChild?.replaceChildren(...state.notes.map((note) => make("li", note)));
@@ -62,6 +63,7 @@ export function showSummary(state) {
   }
 }
 
-export function beginKeeping() {
+export function beginSummary() {
+  heedRoom();
   onClick("keep", () => act({ what: "keep" }, `the steps are kept in ${present().offer}`));
 }
