@@ -90,3 +90,41 @@ def test_typed(driver: Any, tmp_path: Path) -> None:
         page.write("#capacity", "+100 %")
         assert page.after(lambda: page.press("Set")) == expected
         as_before(driver)
+
+
+def test_another_tab(driver: Any, tmp_path: Path) -> None:
+    """When another tab closes a pipe, what a typed capacity would bring is said of the new state,
+    without a key; the text stays."""
+    with board(grid_table(tmp_path, 4)) as it:
+        show(driver, 1280, "light")
+        page, rows, limit = Page(driver, it.address), rows_of(it), it.state()["limit"]
+        first, numbers = driver.current_window_handle, [arc["number"] for arc in limit]
+        arc, other = ([row for row in rows if row["number"] in numbers])[:2]
+        page.write("#text", arc["name"])
+        page.choose_found(arc["name"])
+        hint = page.text("#capacity-forms")
+        page.write("#capacity", "+100 %")
+        page.wait(lambda: page.text("#capacity-forms") not in ("..", hint))
+        before = page.text("#capacity-forms")
+        driver.switch_to.new_window("tab")
+        tab = Page(driver, it.address)
+        tab.write("#text", other["name"])
+        tab.choose_found(other["name"])
+        closed = [{**row, "closed": row is other} for row in rows]
+        now = tab.after(lambda: tab.press("Close it"))
+        assert now == value_of(closed)
+        driver.close()
+        driver.switch_to.window(first)
+        expected = value_of(
+            [
+                {**row, "capacity": 2 * int(row["capacity"])}
+                if row["number"] == arc["number"]
+                else row
+                for row in closed
+            ]
+        )
+        by = f"{expected - now} more" if expected > now else "no change"
+        page.wait(lambda: page.text("#capacity-forms") == f"{now} → {expected}: {by}")
+        assert before != page.text("#capacity-forms")
+        assert page.driver.execute_script("return capacity.value") == "+100 %"
+        as_before(driver)

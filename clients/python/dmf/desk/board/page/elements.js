@@ -108,13 +108,15 @@ const fieldsIn = (host) => [...host.querySelectorAll("input")].filter((it) => it
 
 /**
  * Sets the children of an element. Equal ones that it has already stay, so that nothing has to be laid out again. What was typed into
- * fields stays too, and so does the focus: on a child like the one that had it, or else in the same position.
+ * fields stays too, and a new field hears of it as if it were typed there; and so does the focus: on a child like the one that had it, or
+ * else in the same position.
  * @param {Element} host
  * @param {Element[]} children
  */
 export function replace(host, children) {
   const held = document.activeElement, wanted = new Set(children);
-  const typed = new Map(fieldsIn(host).filter((it) => it.value !== it.defaultValue).map((it) => [it.dataset.of, it.value]));
+  const before = fieldsIn(host);
+  const typed = new Map(before.filter((it) => it.value !== it.defaultValue).map((it) => [it.dataset.of, it.value]));
   const place = held && host.contains(held) ? controls(host).indexOf(held) : -1;
   for (const child of [...host.children]) if (!wanted.has(child)) child.remove();
   let next = host.firstElementChild;
@@ -122,7 +124,9 @@ export function replace(host, children) {
     if (child === next) next = next.nextElementSibling;
     else host.insertBefore(child, next);
   }
-  for (const it of typed.size ? fieldsIn(host) : []) it.value = typed.get(it.dataset.of) ?? it.value;
+  const taken = typed.size ? fieldsIn(host).filter((it) => !before.includes(it) && typed.has(it.dataset.of)) : [];
+  for (const it of taken) it.value = typed.get(it.dataset.of) ?? "";
+  for (const it of taken) it.dispatchEvent(new Event("input"));
   if (!held || place < 0 || held === document.activeElement) return;
   const now = controls(host), like = now.find((it) => it.id && it.id === held.id) ?? now.find((it) => it.textContent === held.textContent);
   const found = like ?? now[Math.min(place, now.length - 1)] ?? host;
