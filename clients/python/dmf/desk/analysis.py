@@ -121,7 +121,7 @@ def cheapest(desk: Desk, given: Prices, to: Quantity | None = None) -> Way:
     is as it was after that. Each purchase takes a few solves, and for second arcs a trial of each
     arc of the limit. Raise a `DeskFault` if the flow is not greatest."""
     if not desk.is_greatest:
-        raise DeskFault("the flow is not greatest, so the limit is not known; `solve` first")
+        raise DeskFault(desk.network.words.limit_not_known)
     wanted = EXACT.multiply(desk.value, 2) if to is None else to
     if wanted < desk.value:
         raise DeskFault(
@@ -152,9 +152,9 @@ def _units(desk: Desk, given: Prices, wanted: Quantity, way: Way) -> Iterator[Bo
             }
             if not offers:
                 way.end = (
-                    "no arc of the limit then has a price"
+                    f"no {desk.network.words.noun} of the limit then has a price"
                     if not chosen
-                    else "no arc of a limit behind it has a price"
+                    else f"no {desk.network.words.noun} of a limit behind it has a price"
                 )
                 return
             number = min(offers, key=lambda it: (offers[it], it))
@@ -201,9 +201,9 @@ def _seconds(desk: Desk, given: Prices, wanted: Quantity, way: Way) -> Iterator[
         }
         if not gains:
             way.end = (
-                "no second one beside any arc of the limit alone brings more"
+                f"no second one beside any {desk.network.words.noun} of the limit alone brings more"
                 if offers
-                else "no arc of the limit then has a price"
+                else f"no {desk.network.words.noun} of the limit then has a price"
             )
             return
         number = min(gains, key=lambda it: (Decimal(offers[it]) / Decimal(gains[it]), it))
@@ -227,7 +227,8 @@ def purchase_lines(desk: Desk, given: Prices, way: Way) -> Iterator[str]:
         if desk.network.measure.told_unit
         else "one more"
     )
-    yield f"what {each} costs at each arc of the limit, by the column {quoted_name(given.title)}:"
+    where = f"at each {desk.network.words.noun} of the limit"
+    yield f"what {each} costs {where}, by the column {quoted_name(given.title)}:"
     for number, price in priced(desk, given).items():
         yield (
             f"  #{number} {desk.network.names.arc(number)}: "

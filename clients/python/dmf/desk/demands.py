@@ -56,7 +56,7 @@ def demand_sentence(desk: Desk, demands: Mapping[int, LimitedAmount]) -> str:
     network = desk.network
     short = {node: it for node, it in demands.items() if it.short > 0}
     if not short:
-        return "all demands are met" if demands else ""
+        return network.words.met if demands else ""
     missing = total(it.short for it in short.values())
     names = (f"{network.names.node(node)} ({it.text})" for node, it in short.items())
     return f"short by {network.told(missing)}: {listed(names, MOST_NAMED)}"

@@ -22,6 +22,7 @@ from .arc_lines import ArcLines
 from .arcs_by_name import ArcsByName
 from .pipes import Pipes
 from .steps import DeskFault, Node, Place, UnknownPlace
+from .subject_words import Words
 
 MOST_LISTED = 6
 # The separators between the ends of an arc that is named by them, the longest first.
@@ -54,8 +55,10 @@ class Directory:
         pipes: Pipes,
         nodes: Sequence[Node],
         folding: TableRoles,
+        words: Words,
     ) -> None:
         """Take as `lines` the arcs, of which there may be more later."""
+        self._words = words
         self._lines, self._pipes = lines, pipes
         self._folding = folding
         self._has_roles = folding.has_roles
@@ -157,13 +160,12 @@ class Directory:
         return self._called[1]
 
     def _typed(self, number: int) -> set[str]:
-        """Return the names by which an arc can be typed: how it is called, and its name in the
-        problem."""
-        return {
-            cleaned(name)
-            for name in (self.arc_name(number), display(self.given_arc(number)))
-            if name
-        }
+        """Return the names by which an arc can be typed: how it is called, also by dmf-names, and
+        its name in the problem."""
+        role = self._folding.role(*self._ends(number))
+        given = role_words(role, self.node) if role else ""
+        names = self.arc_name(number), given, display(self.given_arc(number))
+        return {cleaned(name) for name in names if name}
 
     def _ends(self, number: int) -> tuple[int, int]:
         return self._lines.ends_of(number)
@@ -185,7 +187,8 @@ class Directory:
     def phrase(self, number: int) -> str:
         """Return the beginning of a sentence about the capacity of an arc: `Mill Lane carries`."""
         role = self._folding.role(*self._ends(number))
-        return role_phrase(role, self.node) if role else f"{self.short(number)} carries"
+        does, carries = self._words.does, self._words.page.most
+        return role_phrase(role, self.node, does) if role else f"{self.short(number)} {carries}"
 
     def is_role(self, number: int) -> bool:
         """Return True if an arc is not of the table, but stands for what a place gives, takes or
@@ -195,7 +198,10 @@ class Directory:
     def arc_name(self, number: int) -> str:
         """Return the name of an arc, or nothing."""
         role = self._folding.role(*self._ends(number))
-        return role_words(role, self.node) if role else display(self.given_arc(number))
+        return self._role_words(role) if role else display(self.given_arc(number))
+
+    def _role_words(self, role: Role) -> str:
+        return role_words(role, self.node, self._words.does)
 
     def given_node(self, number: int) -> str:
         """Return the name of a node as it was given, which may have what nobody can see."""
@@ -223,7 +229,7 @@ class Directory:
             tail_node, head_node = map(self._folding.place, (tail, head))
         name = display(key) if isinstance(key, str) else ""
         if role:
-            name = label = role_words(role, self.node)
+            name = label = self._role_words(role)
         else:
             label = arrow.join(ends)
             label = f"{name}, {label}" if name else label
@@ -352,11 +358,12 @@ class Directory:
                 at = name.find(arrow, at + 1)
 
     def _unknown_arc(self, name: str) -> str:
+        noun = self._words.noun
         for tail, head in self._splits(name):
-            return f"no arc leads from {quoted_name(tail)} to {quoted_name(head)}"
+            return f"no {noun} leads from {quoted_name(tail)} to {quoted_name(head)}"
         if name.isascii() and name.isdigit() and 1 <= int(name) <= len(self._lines):
-            return f"no arc is called {quoted_name(name)}; is it #{name}, {self.arc(int(name))}?"
-        return f"no arc is called {quoted_name(name)}{near(name, self.spoken())}"
+            return f"no {noun} is called {quoted_name(name)}; is it #{name}, {self.arc(int(name))}?"
+        return f"no {noun} is called {quoted_name(name)}{near(name, self.spoken())}"
 
     def spoken(self) -> Iterator[str]:
         """Return for each arc a text that means it."""

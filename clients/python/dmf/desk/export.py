@@ -25,12 +25,7 @@ MOST_DRAWN = 300
 # The most time that Graphviz may take, in seconds.
 PATIENCE = 60
 DRAWN = {".svg": "svg", ".png": "png", ".pdf": "pdf"}
-# How a picture is read, and the title of the column that says of which plan a table is.
-LEGEND = (
-    "45/60: 45 flow where 60 fit; thick: full; red: the limit; grey: nothing flows; dashed: "
-    "closed; "
-    "blue places: before the limit"
-)
+# The title of the column that says of which plan a table is.
 SAID = "said of the plan"
 
 
@@ -172,7 +167,7 @@ def drawing(desk: Desk) -> Drawing:
     flows = [None if pipe.is_closed else magnitude(flow) for pipe, flow in zip(pipes, amounts)]
     side = desk.side() if desk.is_greatest else set()
     lines = arcs_of([pipe.way(flow) for pipe, flow in zip(pipes, amounts)])
-    notes = [*said_of(desk), LEGEND] if desk.state.scenario else []
+    notes = [*said_of(desk), network.words.caption] if desk.state.scenario else []
     return Drawing(
         drawn,
         lines,

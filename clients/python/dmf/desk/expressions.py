@@ -100,7 +100,7 @@ def condition(desk: Desk, words: list[str]) -> Condition | None:
         return lambda number: pipe(number).is_full(quantity(flows[number - 1]))
     if words == ["limit"]:
         if not desk.is_greatest:
-            raise DeskFault("the flow is not greatest, so the limit is not known; `solve` first")
+            raise DeskFault(desk.network.words.limit_not_known)
         return desk.cut_arcs().__contains__
     if len(words) < 3:
         return None

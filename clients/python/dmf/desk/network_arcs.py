@@ -100,7 +100,7 @@ class NetworkArcs(NetworkWords):
         if number >= 1:
             with contextlib.suppress(IndexError):
                 return self.lines[number - 1]
-        raise DeskFault(f"arc #{number} does not exist")
+        raise DeskFault(f"{self.words.noun} #{number} does not exist")
 
     def pipe(self, number: int) -> Pipe:
         """Return a pipe as it is. Raise a `DeskFault` if no arc has this number."""

@@ -16,6 +16,7 @@ from .arc_lines import ArcLines
 from .directory import Directory
 from .pipes import Pipe, Pipes, TwoWayPipe, amounts
 from .steps import DeskFault, Node
+from .subject_words import words_of
 
 
 class NetworkWords:
@@ -32,7 +33,8 @@ class NetworkWords:
         tied = self.folding.partners(state.columns.tails, state.columns.heads)
         self.pipes = Pipes(self.lines, tied)
         labels = subject.net.node_names if subject.net else _node_names(subject.text, nodes)
-        self.names = Directory(labels, self.lines, self.pipes, nodes, self.folding)
+        self.words = words_of(subject.notes)
+        self.names = Directory(labels, self.lines, self.pipes, nodes, self.folding, self.words)
         # The nodes of the problem's source and sink, which may join several places.
         self.source, self.sink = state.number(state.source), state.number(state.sink)
 

@@ -1,14 +1,13 @@
-"""The words of a report and of a page: those of a network, in which something is sent from place
-to place, and those of a roster, in which people take shifts."""
+"""The words of dmf-plan, a page and a report: those of a network, in which something is sent from
+place to place, and those of a roster, in which people take shifts."""
 
 from __future__ import annotations
 
-from collections.abc import Iterable, Sequence
+from collections.abc import Iterable, Mapping, Sequence
 from typing import NamedTuple
 
 from ..tables.roster_words import is_of_roster
-from ..text.table_comments import DEMAND, LIMIT, MOST_ENDS, SUPPLY, listed
-from .directory import ArcNames, Directory
+from ..text.table_comments import DEMAND, DOES, LIMIT, MOST_ENDS, SUPPLY, listed
 
 
 class PageWords(NamedTuple):
@@ -22,7 +21,8 @@ class PageWords(NamedTuple):
     what its list leaves out, and `shut`, `again`, `shutting`, `is_shut`, `is_open` and `through` of
     shutting it and of its end; `added` is asked of a new pipe, and `each` of all that are chosen,
     of which `flowing` says what they do; `flows` and `fits` are titles of the table, and `forms`
-    examples of its filter."""
+    examples of its filter; `whole` and `line` are the words for all and for one line in the
+    picture; `compared`, `more_flows`, `less_flows` and `not_flow` are of two scenarios."""
 
     task: str
     brief_task: str
@@ -58,6 +58,12 @@ class PageWords(NamedTuple):
     flows: str
     fits: str
     forms: str
+    whole: str
+    line: str
+    compared: str
+    more_flows: str
+    less_flows: str
+    not_flow: str
 
     def tasks(self, sources: Sequence[str], sinks: Sequence[str]) -> list[str]:
         """Return the texts that say what the value is, the longest first: with the names of these
@@ -78,7 +84,12 @@ class Words(NamedTuple):
     """The sentences and titles in which networks and rosters differ. What stands in braces is
     filled in. `crosses` and `crosses_one` are about the bottleneck, of several parts and of one,
     `severed` is about a network without one. `worth` says how losses were reckoned, of a pipe and
-    of a place that is lost; `arc` is the word for a pipe, if the table does not have it.
+    of a place that is lost; `arc` is the word for a pipe, if the table does not have it, and `noun`
+    that of dmf-plan and of steps; `does` says what a place gives, takes or lets through; `not_most`
+    that the flow is not greatest, and `none_yet` that there is none; `side` is the title of the
+    places before the bottleneck; `shutting`, `shut_step` and `open_step` are of shutting a place;
+    `caption` and `difference_caption` explain a picture that is saved, and `differ_most` says which
+    pipes that of a comparison has, if not all.
     """
 
     page: PageWords
@@ -95,17 +106,29 @@ class Words(NamedTuple):
     shut: str
     places: str
     shades: dict[str, str]
-    roles: dict[str, str]
+    noun: str
+    does: Mapping[str, str]
+    not_most: str
+    none_yet: str
+    side: str
+    shutting: str
+    shut_step: str
+    open_step: str
+    caption: str
+    difference_caption: str
+    differ_most: str
     arc: str = ""
 
-    def arc_names(self, names: Directory, number: int) -> ArcNames:
-        """Return all that the pipe of an arc is called, with these words for what a place gives,
-        takes or lets through."""
-        given = names.arc_names(number)
-        if not given.role or not self.roles:
-            return given
-        told = self.roles[given.role.kind].format(place=names.node(given.role.node))
-        return given._replace(name=told, short=told, label=told)
+    @property
+    def limit_not_known(self) -> str:
+        """Return why the limit is not known before a `solve`."""
+        return f"{self.not_most}, so the limit is not known; `solve` first"
+
+    @property
+    def met(self) -> str:
+        """Return what says that nothing is short, as a part of a sentence."""
+        text = self.page.met.rstrip(".")
+        return text[:1].lower() + text[1:]
 
 
 NETWORK = Words(
@@ -144,6 +167,12 @@ NETWORK = Words(
         flows="flows",
         fits="fits",
         forms="lost > 10, fits < 60, flows > before, from ~ Mill",
+        whole="network",
+        line="arc",
+        compared="what flows",
+        more_flows="more flows in the second",
+        less_flows="less flows",
+        not_flow="not the flow",
     ),
     question="what can be sent from {source} to {sink}",
     size="{arcs} between {places} places",
@@ -161,7 +190,19 @@ NETWORK = Words(
     shut="place that is shut",
     places="places",
     shades={},
-    roles={},
+    noun="arc",
+    does=DOES,
+    not_most="the flow is not greatest",
+    none_yet="there is no flow yet",
+    side="source's side",
+    shutting="shutting",
+    shut_step="shut {place}",
+    open_step="open {place}",
+    caption="45/60: 45 flow where 60 fit; thick: full; red: the limit; grey: nothing flows; "
+    "dashed: closed; blue places: before the limit",
+    difference_caption="30 → 45: flow in the first and in the second; blue: more, thick if only "
+    "there; brown: less, dashed if gone; grey: the same",
+    differ_most="whose flow differs most",
 )
 ROSTER = Words(
     page=PageWords(
@@ -199,6 +240,12 @@ ROSTER = Words(
         flows="staffed",
         fits="allows",
         forms="lost > 8, allows < 16, staffed > before, from ~ Ann",
+        whole="roster",
+        line="connection",
+        compared="what is staffed",
+        more_flows="more is staffed in the second",
+        less_flows="less is staffed",
+        not_flow="not what is staffed",
     ),
     question="how {amount} can be staffed",
     size="{people} and {shifts}",
@@ -225,11 +272,19 @@ ROSTER = Words(
         "not changed (the flows before are not known)": "not changed (what was staffed before is "
         "not known)",
     },
-    roles={
-        SUPPLY: "what {place} can work",
-        DEMAND: "what {place} needs",
-        LIMIT: "what {place} can take",
-    },
+    noun="connection",
+    does={SUPPLY: "can work", DEMAND: "needs", LIMIT: "can take"},
+    not_most="more can be staffed",
+    none_yet="nobody is staffed yet",
+    side="before the limit",
+    shutting="leaving out",
+    shut_step="leave out {place}",
+    open_step="take in {place} again",
+    caption="8/16: 8 are staffed where 16 are allowed; thick: full; red: the limit; grey: not "
+    "taken; dashed: closed; blue: before the limit",
+    difference_caption="8 → 16: staffed in the first and in the second; blue: more, thick if only "
+    "there; brown: less, dashed if gone; grey: the same",
+    differ_most="where what is staffed differs most",
     arc="connection",
 )
 

@@ -352,9 +352,11 @@ class Desk:
             not line.is_closed and (line.tail in place or line.head in place)
             for line in network.lines
         ):
-            raise DeskFault(f"no arc is open at {quoted_name(network.names.node(place.entry))}")
+            label, noun = network.names.node(place.entry), network.words.noun
+            raise DeskFault(f"no {noun} is open at {quoted_name(label)}")
         return self.step(
-            f"shut {network.names.node(place.entry)}", [Shut(node) for node in dict.fromkeys(place)]
+            network.words.shut_step.format(place=network.names.node(place.entry)),
+            [Shut(node) for node in dict.fromkeys(place)],
         )
 
     def open(self, *numbers: int, words: str = "") -> Step:
@@ -379,8 +381,11 @@ class Desk:
             and not others & {line.tail, line.head}
         ]
         if not closed:
-            raise DeskFault(f"each arc at {quoted_name(label)} leads to a place that is shut too")
-        return self.step(f"open {label}", [Reopen(number) for number in closed])
+            each = f"each {network.words.noun} at {quoted_name(label)}"
+            raise DeskFault(f"{each} leads to a place that is shut too")
+        return self.step(
+            network.words.open_step.format(place=label), [Reopen(number) for number in closed]
+        )
 
     def undo(self, count: int = 1) -> None:
         """Undo the last steps, all of them or none."""

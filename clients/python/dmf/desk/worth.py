@@ -51,7 +51,7 @@ def judge_greatest(desk: Desk) -> None:
     """Raise a `DeskFault` unless the flow is greatest."""
     if not desk.is_greatest:
         raise DeskFault(
-            "the flow is not greatest, so nothing can be compared with it; `solve` first"
+            f"{desk.network.words.not_most}, so nothing can be compared with it; `solve` first"
         )
 
 

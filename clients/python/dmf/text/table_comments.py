@@ -332,14 +332,15 @@ class TableRoles:
         )
 
 
-def role_words(role: Role, label: Callable[[int], str]) -> str:
-    """Return what an inner arc stands for: `what Mill gives at most`."""
-    return ROLE_WORD + role_phrase(role, label)
+def role_words(role: Role, label: Callable[[int], str], does: Mapping[str, str] = DOES) -> str:
+    """Return what an inner arc stands for: `what Mill gives at most`. The verb for what a place
+    does is that of its role."""
+    return ROLE_WORD + role_phrase(role, label, does)
 
 
-def role_phrase(role: Role, label: Callable[[int], str]) -> str:
+def role_phrase(role: Role, label: Callable[[int], str], does: Mapping[str, str] = DOES) -> str:
     """Return the beginning of a sentence about an inner arc: `Mill gives at most`."""
-    return f"{label(role.node)} {DOES[role.kind]}"
+    return f"{label(role.node)} {does[role.kind]}"
 
 
 def renumbered(

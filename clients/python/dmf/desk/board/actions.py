@@ -21,12 +21,13 @@ def _told(desk: Desk, numbers: list[int]) -> str:
     """Return the words of a step on several arcs, which are empty for one. Raise a `DeskFault` if
     there are no arcs, or one does not exist."""
     if not numbers:
-        raise DeskFault("no arc is chosen")
+        raise DeskFault(f"no {desk.network.words.noun} is chosen")
     for number in numbers:
         desk.network.line(number)
     if len(numbers) == 1:
         return ""
-    return f"{len(numbers)} arcs ({listed(map(desk.network.names.short, numbers), MOST_NAMED)})"
+    noun, names = desk.network.words.noun, desk.network.names
+    return f"{len(numbers)} {noun}s ({listed(map(names.short, numbers), MOST_NAMED)})"
 
 
 def _cap_all(desk: Desk, content: Json) -> None:

@@ -26,6 +26,7 @@ from ..project.comparison import (
     known_arcs,
 )
 from ..project.scenarios import project_of
+from ..subject_words import Words
 from ..workspace import Desk
 from .arrows import SVG, turn_arrow
 from .layout import NoPicture, Places
@@ -52,10 +53,6 @@ text {{ font-family: Helvetica, Arial, sans-serif; }}
 .gone path {{ stroke-width: 2.5; stroke-dasharray: 5 3; }}
 .arc text {{ paint-order: stroke; stroke: #ffffff; stroke-width: 3; }}
 """
-LEGEND = (
-    "30 → 45: flow in the first and in the second; blue: more, thick if only there; brown: less, "
-    "dashed if gone; grey: the same"
-)
 
 
 class _Found(NamedTuple):
@@ -79,6 +76,7 @@ class _Drawn:
     roles: dict[int, list[_Found]]
     count: int
     differing: int
+    words: Words
 
     @property
     def reason(self) -> str:
@@ -87,11 +85,11 @@ class _Drawn:
         if shown == self.count:
             return ""
         some = (
-            f"those of the {self.differing} that differ whose flow differs most"
+            f"those of the {self.differing} that differ {self.words.differ_most}"
             if self.differing > shown
             else "those that differ, and others beside them"
         )
-        return f"{shown} of {self.count} arcs are drawn: {some}"
+        return f"{shown} of {self.count} {self.words.noun}s are drawn: {some}"
 
 
 class DifferencePicture(Picture):
@@ -149,7 +147,12 @@ class DifferencePicture(Picture):
             f"{display(os.path.basename(self._desk.network.subject.path))}, {names}: {values}, "
             f"{moved(one.value, two.value)}"
         )
-        return [said, time.strftime("%Y-%m-%d"), LEGEND, *[drawn.reason] * bool(drawn.reason)]
+        return [
+            said,
+            time.strftime("%Y-%m-%d"),
+            self._desk.network.words.difference_caption,
+            *[drawn.reason] * bool(drawn.reason),
+        ]
 
     def _drawn(self, found: Comparison) -> _Drawn:
         desk = self._desk
@@ -182,6 +185,7 @@ class DifferencePicture(Picture):
             roles,
             len(differing) + len(alike),
             len(differing),
+            self._desk.network.words,
         )
 
     def _take_made(self, every: Iterable[Known]) -> None:

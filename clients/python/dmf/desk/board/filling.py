@@ -49,7 +49,7 @@ def fill(root: ElementTree.Element, shape: Shape, desk: Desk) -> None:
         group = groups[f"node-{it.node}"]
         for ellipse in group.findall(f"{{{SVG}}}ellipse")[:1]:
             ellipse.set("class", "inner")
-        label = it.label + ", shut" * it.is_shut
+        label = it.label + f", {network.words.page.is_shut}" * it.is_shut
         group.attrib.update(ends.looks(it.node, it.roles))
         # The first text is the name.
         for text, (number, words, _) in zip(group.findall(f"{{{SVG}}}text")[1:], it.roles):

@@ -7,7 +7,7 @@ from collections.abc import Iterator
 from xml.etree import ElementTree
 
 from ...text.drawing import CUT, SIDE, UNUSED, drawn_line, quoted
-from ..export import LEGEND, MOST_DRAWN, said_of
+from ..export import MOST_DRAWN, said_of
 from ..workspace import Desk
 from .arrows import add_arrows
 from .dots import SETTINGS, mark_dots
@@ -63,7 +63,7 @@ class Picture:
         is_dotted = not to_take and (self.is_map or len(shape.nodes) > MOST_LAYERED)
         root = self.laid_out(shape, is_dotted=is_dotted)
         fill(root, shape, self._desk)
-        return written(root, STYLE, caption(self._desk, LEGEND)) if to_take else written(root)
+        return written(root, STYLE, caption(self._desk)) if to_take else written(root)
 
     def _put_made(self) -> None:
         """Put each place that was made, and has no spot yet, beside its neighbours."""
@@ -148,7 +148,9 @@ class Picture:
             roles = [f"{words} {widest}" for _, words, widest in it.roles]
             looks = {
                 "id": quoted(f"node-{it.node}"),
-                "label": quoted(allowed(it.label), *roles, *["shut"] * it.is_shut),
+                "label": quoted(
+                    allowed(it.label), *roles, *[network.words.page.is_shut] * it.is_shut
+                ),
             }
             if it.node in (*network.sources, *network.sinks):
                 looks["peripheries"] = "2"
@@ -171,7 +173,7 @@ class Picture:
         yield "}"
 
 
-def caption(desk: Desk, legend: str) -> list[str]:
+def caption(desk: Desk) -> list[str]:
     """Return the lines below a picture that is saved: what it shows, from which day, and how to
     read it, with the unit."""
-    return [*said_of(desk), legend]
+    return [*said_of(desk), desk.network.words.caption]

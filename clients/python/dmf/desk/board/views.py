@@ -6,7 +6,6 @@ from __future__ import annotations
 import os
 from collections.abc import Sequence
 from decimal import Decimal
-from functools import partial
 
 from ...quantity import EXACT, Quantity, magnitude, moved, plain_text
 from ...session.base import Part, ValuesWithout
@@ -19,7 +18,6 @@ from ..pipes import TwoWayPipe, other_way, way_sign
 from ..project.scenarios import Scenarios
 from ..seconds import MOST_SECONDS, best_seconds
 from ..steps import Second
-from ..subject_words import words_of
 from ..workspace import Desk
 from ..worth import MOST_PAIRS, left_without, losses, worst, worst_pairs, worst_places
 from .responses import Json, whole
@@ -104,7 +102,7 @@ def words_view(desk: Desk) -> Json:
     """Return the words that a page has for this network, in which no step changes anything. What
     is in the bottleneck, `crosses`, leaves in braces what differs from state to state."""
     network = desk.network
-    words = words_of(network.subject.notes)
+    words = network.words
     noun, unit = network.subject.noun or "connection", network.measure.told_unit
     ends = network.sources, network.sinks
     filled = {
@@ -208,8 +206,6 @@ def arc_views(desk: Desk, numbers: Sequence[int]) -> list[Json]:
     something else, and its capacities there and back if both ways are open."""
     network, cut = desk.network, desk.cut_arcs()
     names_of, flows = network.names.arc_names, desk.flows_on(numbers)
-    if network.folding.has_roles:
-        names_of = partial(words_of(network.subject.notes).arc_names, network.names)
     found = []
     for number, pipe, flow in zip(numbers, network.pipes.of(numbers), flows):
         names = names_of(number)
@@ -383,7 +379,7 @@ def second_view(desk: Desk, second: Second) -> Json:
     network = desk.network
     return {
         "number": second.arc,
-        "short": words_of(network.subject.notes).arc_names(network.names, second.arc).short,
+        "short": network.names.short(second.arc),
         "doubled": "" if doubled is None else plain_text(doubled),
         "won": plain_text(won) if won else "",
         "gain": f"{network.measure.whole(won):0{DIGITS}d}",

@@ -351,10 +351,8 @@ def arcs_where(desk: Desk, words: list[str], *, are_closed: bool = False) -> lis
     ]
     found = [number for number in numbers if all(is_so(number) for is_so in conditions)]
     if not found:
-        raise DeskFault(
-            f"none of the {len(numbers)} {'closed' if are_closed else 'open'} arcs meets the "
-            "conditions"
-        )
+        kind = f"{'closed' if are_closed else 'open'} {network.words.noun}s"
+        raise DeskFault(f"none of the {len(numbers)} {kind} meets the conditions")
     return found
 
 
@@ -375,9 +373,9 @@ def capped_where(desk: Desk, words: list[str]) -> tuple[dict[int, Quantity], str
     text, conditions = " ".join(words[-size:]), words[1:-size]
     numbers = arcs_where(desk, conditions)
     wanted = {arc: it for number in numbers for arc, it in capacities(desk, number, text).items()}
-    return wanted, f"{arcs_told(numbers, words[:-size])}: {text}"
+    return wanted, f"{arcs_told(desk, numbers, words[:-size])}: {text}"
 
 
-def arcs_told(numbers: list[int], words: list[str]) -> str:
+def arcs_told(desk: Desk, numbers: list[int], words: list[str]) -> str:
     """Return the words of a step on the arcs that meet conditions."""
-    return f"{len(numbers)} arc{'s' * (len(numbers) != 1)} {' '.join(words)}"
+    return f"{len(numbers)} {desk.network.words.noun}{'s' * (len(numbers) != 1)} {' '.join(words)}"

@@ -66,7 +66,7 @@ def _close(context: Context, words: list[str]) -> None:
         numbers = arcs_where(desk, words[1:])
         _change(
             context,
-            lambda: desk.close(*numbers, words=arcs_told(numbers, words)),
+            lambda: desk.close(*numbers, words=arcs_told(desk, numbers, words)),
             f"{len(numbers)} closed",
         )
         return
@@ -83,7 +83,7 @@ def _open(context: Context, words: list[str]) -> None:
         numbers = arcs_where(desk, words[1:], are_closed=True)
         _change(
             context,
-            lambda: desk.open(*numbers, words=arcs_told(numbers, words)),
+            lambda: desk.open(*numbers, words=arcs_told(desk, numbers, words)),
             f"{len(numbers)} opened",
         )
         return
@@ -152,7 +152,7 @@ def _steps(context: Context, words: list[str]) -> None:
 def _cut(context: Context, words: list[str]) -> None:
     no_words(words, "cut")
     if not context.desk.is_greatest:
-        raise DeskFault("the flow is not greatest, so the limit is not known; `solve` first")
+        raise DeskFault(context.desk.network.words.limit_not_known)
     context.output.limit(context.desk)
 
 

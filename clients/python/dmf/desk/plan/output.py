@@ -50,7 +50,7 @@ class TextOutput(Output):
     def worst(self, desk: Desk, losses: list[Loss], more: int) -> None:
         names = desk.network.names
         named = [(it, f"#{it.number} {names.arc(it.number)}") for it in losses]
-        self.tell(*_worst_lines(desk, named, more, "no arc alone costs"))
+        self.tell(*_worst_lines(desk, named, more, f"no {desk.network.words.noun} alone costs"))
 
     def worst_places(self, desk: Desk, losses: list[Loss], more: int) -> None:
         named = [(it, desk.network.names.node(it.number)) for it in losses]
@@ -59,17 +59,18 @@ class TextOutput(Output):
     def worst_pairs(self, desk: Desk, losses: list[PairLoss]) -> None:
         short = desk.network.names.short
         named = [(it, " and ".join(f"#{one} {short(one)}" for one in it.numbers)) for it in losses]
-        self.tell(*_worst_lines(desk, named, 0, "no two arcs together cost"))
+        none_costs = f"no two {desk.network.words.noun}s together cost"
+        self.tell(*_worst_lines(desk, named, 0, none_costs))
 
     def worth_of_place(self, desk: Desk, loss: Loss) -> None:
         label = desk.network.names.node(loss.number)
-        self.tell(f"shutting {label}: {_left_of(desk, loss.left)}")
+        self.tell(f"{desk.network.words.shutting} {label}: {_left_of(desk, loss.left)}")
 
     def worth(
         self, desk: Desk, losses: list[Loss], together: Quantity, *, is_one_name: bool = True
     ) -> None:
         if is_one_name and len(losses) > 1:
-            self.tell(f"{len(losses)} arcs have this name")
+            self.tell(f"{len(losses)} {desk.network.words.noun}s have this name")
         self.tell(*_worth_lines(desk, losses, together))
 
     def what_if(self, desk: Desk, before: Quantity, value: Quantity) -> None:
@@ -87,7 +88,9 @@ def value_line(desk: Desk, before: Quantity | None = None) -> str:
     value = desk.value
     by = "" if before is None or value == before else f", {moved(before, value)}"
     return f"value {desk.network.told(value)}{by}" + (
-        ", the greatest" if desk.is_greatest else "; more can be sent: solve"
+        ", the greatest"
+        if desk.is_greatest
+        else f"; more {desk.network.words.page.brief_task}: solve"
     )
 
 
@@ -97,7 +100,7 @@ def _limit_lines(desk: Desk) -> Iterator[str]:
     more = f" and {len(side) - MOST_SIDE} more" if len(side) > MOST_SIDE else ""
     yield f"limit {network.told(desk.value)}"
     if side:
-        yield f"  source's side: {', '.join(side[:MOST_SIDE])}{more}"
+        yield f"  {network.words.side}: {', '.join(side[:MOST_SIDE])}{more}"
     cut = list(desk.cut_arcs())
     for number, flow in zip(cut, desk.flows_on(cut)):
         yield f"  #{number} {network.names.arc(number)}: {network.told_room(number, flow)}"
@@ -155,15 +158,16 @@ def place_lines(desk: Desk) -> list[str]:
         leaving[tail] = EXACT.add(leaving[tail], magnitude(flow))
         entering[head] = EXACT.add(entering[head], magnitude(flow))
     side = desk.side() if desk.is_greatest else set()
+    words = network.words.page
     supplies, demands = (limited_amounts(desk, kind) for kind in (SUPPLY, DEMAND))
 
     def told(node: int) -> str:
         short = demands[node].short if node in demands else 0
         said = (
-            ["a source"] * (node in network.sources)
-            + ["a sink"] * (node in network.sinks)
+            [f"a {words.source}"] * (node in network.sources)
+            + [f"a {words.sink}"] * (node in network.sinks)
             + [f"{plain_text(short)} short"] * (short > 0)
-            + ["shut"] * (node in network.shut_nodes)
+            + [words.is_shut] * (node in network.shut_nodes)
             + ["before the limit"] * (node in side)
         )
         amounts = (
@@ -180,7 +184,7 @@ def place_lines(desk: Desk) -> list[str]:
 def _no_flow(desk: Desk) -> list[str]:
     """Return the line that tells why nothing flows although something could."""
     is_unsolved = not desk.value and not desk.is_greatest
-    return ["there is no flow yet: `solve` finds the greatest"] if is_unsolved else []
+    return [f"{desk.network.words.none_yet}: `solve` finds the greatest"] if is_unsolved else []
 
 
 def _present_scenario(project: Scenarios) -> str:

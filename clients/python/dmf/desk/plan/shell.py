@@ -184,6 +184,7 @@ class Shell:
 
     def greeting(self) -> str:
         network, name = self.desk.network, self.desk.state.scenario
+        words = network.words
         source, sink = map(network.names.terminal, (network.source, network.sink))
         places = len(network.folding.places(range(1, network.names.node_count + 1)))
         scenario = (
@@ -191,7 +192,7 @@ class Shell:
         )
         return (
             f"{display(network.subject.path)}: from {source} to {sink}, "
-            f"{len(network.pictured())} arcs between {places} places.{scenario}"
+            f"{len(network.pictured())} {words.noun}s between {places} {words.places}.{scenario}"
         )
 
     def _prompt(self) -> str:

@@ -95,6 +95,7 @@ class Comparison:
     arcs: tuple[ArcDifference, ...]
     measure: Measure
     alike: tuple[Known, ...] = ()
+    noun: str = "arc"
 
     def lines(self) -> Iterator[str]:
         """Yield the comparison in words, with a line for each thing that differs."""
@@ -107,7 +108,8 @@ class Comparison:
         else:
             for name, standing in zip(names, (self.first, self.second)):
                 yield f"  limit of {name}: {'; '.join(standing.limit) or 'nothing'}"
-        yield f"  arcs that differ, {' | '.join(names)}:" if self.arcs else "  no arc differs"
+        differ = f"{self.noun}s that differ, {' | '.join(names)}:"
+        yield f"  {differ}" if self.arcs else f"  no {self.noun} differs"
         yield from (f"  {it.arc}: {it.first.told()} | {it.second.told()}" for it in self.arcs)
 
 
@@ -227,4 +229,5 @@ def compare(project: Scenarios, first: str, second: str) -> Comparison:
         rows,
         network.measure,
         tuple(it for it in every if it not in found),
+        network.words.noun,
     )

@@ -24,7 +24,6 @@ from ..demands import limited_amounts
 from ..export import problem, taken
 from ..seconds import MOST_SECONDS, are_found_together, seconds_of
 from ..steps import DeskFault
-from ..subject_words import words_of
 from ..workspace import Desk
 from ..worth import MOST_PAIRED, MOST_PAIRS, Loss, worst, worst_pairs, worst_places
 from .comparison import ArcDifference, compare
@@ -76,13 +75,6 @@ def _demands(desk: Desk) -> Iterator[Demand]:
         yield Demand(desk.network.names.node(node), it.limit, it.flow)
 
 
-def _arc_name(desk: Desk) -> Callable[[int], str]:
-    """Return a function that names an arc in the words of a network or of a roster."""
-    network = desk.network
-    words = words_of(network.subject.notes)
-    return lambda number: words.arc_names(network.names, number).label
-
-
 def _section(
     desk: Desk,
     name: str,
@@ -93,7 +85,7 @@ def _section(
 ) -> Section:
     """Return what is to be said of what a desk shows, whose steps begin with this one: of a
     scenario, if it is one. Its picture is this high at most, in points."""
-    network, name_of, cut = desk.network, _arc_name(desk), [*desk.cut_arcs()]
+    network, name_of, cut = desk.network, desk.network.names.arc, [*desk.cut_arcs()]
     limit = zip(cut, desk.flows_on(cut))
     picture, why = "", ""
     try:
@@ -133,7 +125,7 @@ def _sections(desk: Desk) -> Iterator[Section]:
 
 def _tried(desk: Desk) -> Tried:
     """Return what the arcs and places of the present state mean for its value."""
-    value, name, cut = desk.value, _arc_name(desk), [*desk.cut_arcs()]
+    value, name, cut = desk.value, desk.network.names.arc, [*desk.cut_arcs()]
     tried = cut if are_found_together(desk) else cut[:MOST_TRIED]
     gains = [
         (name(it.arc), EXACT.subtract(it.doubled, value))
@@ -198,7 +190,7 @@ def findings(desk: Desk) -> Findings:
     comparison of each, and a sweep. Raise a `DeskFault` if the flow is not greatest."""
     network = desk.network
     if not desk.is_greatest:
-        raise DeskFault("the flow is not greatest, so the limit is not known; `solve` first")
+        raise DeskFault(desk.network.words.limit_not_known)
     subject, names = network.subject, network.names
     kept = Scenarios.of(desk)
     with_notes, assumed = (
@@ -213,7 +205,7 @@ def findings(desk: Desk) -> Findings:
         names.terminal(network.sink),
         len(network.sources),
         len(network.sinks),
-        words_of(subject.notes),
+        desk.network.words,
         _table_arcs(desk),
         len(names.places),
         tuple(assumed),

@@ -10,12 +10,12 @@ import { showDifference } from "./difference.js";
 import { at, cell, field, fill, make, offer, onClick, replace } from "./elements.js";
 import { patiently } from "./messages.js";
 import { lower } from "./panel.js";
-import { ask, noun, units } from "./state.js";
+import { ask, noun, units, wording } from "./state.js";
 import { listed, sentence, upper } from "./words.js";
 
 const AT_ONCE = 300;
 /** What the picture's colours mean, in words. */
-const KINDS = new Map([["more", "more"], ["come", "only there"], ["less", "less"], ["gone", "gone"], ["else", "not the flow"]]);
+const kinds = () => new Map([["more", "more"], ["come", "only there"], ["less", "less"], ["gone", "gone"], ["else", wording().not_flow]]);
 /** @type {Comparison | null} */
 let shown = null;
 /** @type {Row[]} */
@@ -101,9 +101,10 @@ function showTable() {
   at("compare-more").hidden = rows.length >= total;
   at("compare-scroll").hidden = !total;
   const heads = [upper(noun()), first.name, second.name, "in the picture"];
-  fill("compare-table", `what flows${units() && ","}${units()}`, heads, rows.map((row) => [
+  const means = kinds();
+  fill("compare-table", `${wording().compared}${units() && ","}${units()}`, heads, rows.map((row) => [
     row.number ? pick(row, row.arc) : cell(row.arc), cell(row.first), cell(row.second),
-    make("td", KINDS.get(row.kind) ?? "", { class: row.kind })]), true);
+    make("td", means.get(row.kind) ?? "", { class: row.kind })]), true);
 }
 
 /** Lists more arcs that differ. */

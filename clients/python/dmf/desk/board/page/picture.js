@@ -21,7 +21,7 @@ import { isPicked, pickedCount } from "./many.js";
 import { news } from "./messages.js";
 import { paint } from "./painting.js";
 import { formOf, freePart } from "./room.js";
-import { ask, present } from "./state.js";
+import { ask, present, wording } from "./state.js";
 import { now as shown, put } from "./store.js";
 import { beginView, fit, isFitted, scale, see, seenBox, zoom } from "./view.js";
 import { grouped } from "./words.js";
@@ -203,7 +203,7 @@ function fitTo(like, what) {
   fit({ x: left, y: top, width: right - left, height: bottom - top });
 }
 
-export const fitAll = () => fitTo(".node, .arc", "The network");
+export const fitAll = () => fitTo(".node, .arc", `The ${wording().whole}`);
 
 /** @param {Element} part */
 export function choosePart(part) {

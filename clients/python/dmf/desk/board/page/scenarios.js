@@ -8,7 +8,7 @@ import { choose, theChoice } from "./choice.js";
 import { offerScenarios } from "./compare.js";
 import { at, button, field, make, offer, onClick, replace } from "./elements.js";
 import { offerTab } from "./panel.js";
-import { act, ask } from "./state.js";
+import { act, ask, wording } from "./state.js";
 
 /** The network of the table, without a step. */
 const BASE = "base";
@@ -30,11 +30,11 @@ export async function showScenarios(state, before) {
   const told = await ask("scenarios");
   if (!told) return;
   const present = told.scenarios.find((it) => it.name === state.scenario);
-  at("scenario-base").textContent = `The value of the table's network, without a step, is ${told.base}. `
+  at("scenario-base").textContent = `The value of the table's ${wording().whole}, without a step, is ${told.base}. `
     + (present?.note ? `${state.scenario}: ${present.note}` : "");
   replace(at("scenario-list"), told.scenarios.map((it) => line(it, it === present, Boolean(state.why_not))));
   const names = told.scenarios.map((it) => it.name);
-  offer("scenario-from", [[BASE, "the network of the table"], ...names.map((name) => [name, `the steps of ${name}`])], BASE);
+  offer("scenario-from", [[BASE, `the ${wording().whole} of the table`], ...names.map((name) => [name, `the steps of ${name}`])], BASE);
   for (const it of at("scenario-acts").querySelectorAll("button, input, select")) it.toggleAttribute("disabled", Boolean(state.why_not));
   offerScenarios([BASE, ...names], state);
 }

@@ -47,7 +47,9 @@ export function showSummary(state) {
   at("show-limit").textContent = `Bottleneck: ${grouped(state.limit_count)} ${word}${state.limit_count === 1 ? "" : "s"}`;
   showValue(state);
   showShort(state);
-  at("legend").textContent = state.words.legend;
+  const words = new Map(Object.entries(state.words));
+  for (const it of document.querySelectorAll("[data-word]")) it.textContent = String(words.get(it.getAttribute("data-word") ?? ""));
+  at("picture").ariaLabel = `Picture of the ${state.words.whole}`;
   at("notes").hidden = !state.notes.length;
   at("notes").lastElementChild?.replaceChildren(...state.notes.map((note) => make("li", note)));
   replaceAlike(at("places"), state.names.map((name) => make("option", [], { value: name })));
