@@ -16,7 +16,13 @@ const STILL = 120, LARGEST = 2;
 let whole = null;
 /** @type {Box} */
 let drawn = { x: 0, y: 0, width: 1, height: 1 };
-let resting = 0, isGliding = false;
+let resting = 0, frame = 0, isGliding = false;
+
+/** Goes on waiting for the view to rest. */
+function goOn() {
+  clearTimeout(resting);
+  cancelAnimationFrame(frame);
+}
 
 /** @param {Box | null} box that of the whole picture if it is too large to be drawn for each frame, or else null */
 export function setWhole(box) {
@@ -53,8 +59,9 @@ function isDrawn(seen, all) {
 export function glide(seen, scale, draw) {
   const by = drawn.width / seen.width;
   if (!whole || by > LARGEST || !isDrawn(seen, whole)) return false;
-  clearTimeout(resting);
-  resting = setTimeout(draw, STILL);
+  goOn();
+  // Where frames take longer than that, the next move may already wait for the next frame.
+  resting = setTimeout(() => { frame = requestAnimationFrame(draw); }, STILL);
   isGliding = true;
   at("layers").classList.add("gliding");
   at("layers").style.transform = `translate(${(drawn.x - seen.x) * scale}px, ${(drawn.y - seen.y) * scale}px) scale(${by})`;
@@ -63,7 +70,7 @@ export function glide(seen, scale, draw) {
 
 /** @param {Box} seen the view that is drawn from now on */
 export function rest(seen) {
-  clearTimeout(resting);
+  goOn();
   drawn = seen;
   if (!isGliding) return;
   isGliding = false;
