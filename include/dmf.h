@@ -229,13 +229,15 @@ enum dmf_status dmf_session_maximum_flow(const dmf_session *session, uint64_t *v
                                          uint64_t *flows, size_t flow_count,
                                          uint8_t *side, size_t side_count);
 
-/* What each arc is worth: losses[j - 1] becomes how much less the greatest value is if only arc j is closed, 0 for a closed arc.
- * Or what each node is worth: losses[v - 1] becomes how much less it is if only the arcs at node v are closed, 0 for the source
- * and the sink. `count` is dmf_session_arcs(session) or dmf_session_nodes(session), or the answer is DMF_BAD_LENGTH, whatever
- * the flow is. DMF_NOT_GREATEST if the present flow is not a maximum flow: solve first. One call is much faster than to close
- * each arc and solve. */
-enum dmf_status dmf_session_arc_losses(const dmf_session *session, uint64_t *losses, size_t count);
-enum dmf_status dmf_session_node_losses(const dmf_session *session, uint64_t *losses, size_t count);
+/* What arcs are worth: losses[k] becomes how much less the greatest value is if only arc arcs[k] is closed, 0 for a closed arc.
+ * Or what nodes are worth: how much less it is if only the arcs at node nodes[k] are closed, 0 for the source and the sink. The
+ * lengths must be the same, or the answer is DMF_BAD_LENGTH. DMF_NO_SUCH_ARC or DMF_NO_SUCH_NODE, whatever the flow is.
+ * DMF_NOT_GREATEST if the present flow is not a maximum flow: solve first. One call for many is much faster than to close each and
+ * solve. */
+enum dmf_status dmf_session_arc_losses(const dmf_session *session, const uint32_t *arcs, size_t arc_count,
+                                       uint64_t *losses, size_t loss_count);
+enum dmf_status dmf_session_node_losses(const dmf_session *session, const uint32_t *nodes, size_t node_count,
+                                        uint64_t *losses, size_t loss_count);
 
 /* What two arcs are worth together: losses[k] becomes how much less the greatest value is if only arcs firsts[k] and seconds[k] are
  * closed, which may be the same arc. The three lengths must be the same, or the answer is DMF_BAD_LENGTH. DMF_NO_SUCH_ARC,

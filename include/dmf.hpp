@@ -27,6 +27,7 @@
 #include <iterator>
 #include <memory>
 #include <new>
+#include <numeric>
 #include <stdexcept>
 #include <string>
 #include <string_view>
@@ -188,6 +189,13 @@ inline void expect_ok(dmf_status answer) {
         refuse(answer);
 }
 
+/// Returns the numbers from 1 to `last`.
+inline std::vector<std::uint32_t> numbers_to(std::size_t last) {
+    std::vector<std::uint32_t> numbers(last);
+    std::iota(numbers.begin(), numbers.end(), 1u);
+    return numbers;
+}
+
 struct closer {
     void operator()(dmf_session *session) const noexcept { dmf_session_free(session); }
 };
@@ -339,30 +347,40 @@ public:
         return value;
     }
 
-    /// Returns what each arc is worth: at index j - 1 how much less the greatest value is if only arc j is closed. May take
-    /// long. Throws error with not_greatest before a solve(), or std::bad_alloc.
+    /// Returns what arcs are worth: at index k how much less the greatest value is if only arc arcs[k] is closed. May take long.
+    /// Throws error with not_greatest before a solve(), or with no_such_arc, or std::bad_alloc.
+    [[nodiscard]] std::vector<std::uint64_t> arc_losses(span<const std::uint32_t> arcs) const {
+        std::vector<std::uint64_t> found(arcs.size());
+        arc_losses(arcs, found);
+        return found;
+    }
+
+    /// Returns what each arc is worth: at index j - 1 how much less the greatest value is if only arc j is closed.
     [[nodiscard]] std::vector<std::uint64_t> arc_losses() const {
-        std::vector<std::uint64_t> found(arcs());
-        arc_losses(found);
+        return arc_losses(detail::numbers_to(arcs()));
+    }
+
+    /// Writes these losses into an array with an element for each arc. Throws as the function above does, and error with bad_length.
+    void arc_losses(span<const std::uint32_t> arcs, span<std::uint64_t> into) const {
+        detail::expect_ok(dmf_session_arc_losses(live(), arcs.data(), arcs.size(), into.data(), into.size()));
+    }
+
+    /// Returns what nodes are worth: at index k how much less the greatest value is if only the arcs at node nodes[k] are closed,
+    /// and 0 for the source and the sink. May take long. Throws as arc_losses() does, with no_such_node.
+    [[nodiscard]] std::vector<std::uint64_t> node_losses(span<const std::uint32_t> nodes) const {
+        std::vector<std::uint64_t> found(nodes.size());
+        node_losses(nodes, found);
         return found;
     }
 
-    /// Writes these losses into an array of arcs() elements. Throws as arc_losses() does, and error with bad_length.
-    void arc_losses(span<std::uint64_t> into) const {
-        detail::expect_ok(dmf_session_arc_losses(live(), into.data(), into.size()));
-    }
-
-    /// Returns what each node is worth: at index v - 1 how much less the greatest value is if only the arcs at node v are
-    /// closed, and 0 for the source and the sink. May take long. Throws as arc_losses() does.
+    /// Returns what each node is worth: at index v - 1 how much less the greatest value is if only the arcs at node v are closed.
     [[nodiscard]] std::vector<std::uint64_t> node_losses() const {
-        std::vector<std::uint64_t> found(nodes());
-        node_losses(found);
-        return found;
+        return node_losses(detail::numbers_to(nodes()));
     }
 
-    /// Writes these losses into an array of nodes() elements. Throws as node_losses() does, and error with bad_length.
-    void node_losses(span<std::uint64_t> into) const {
-        detail::expect_ok(dmf_session_node_losses(live(), into.data(), into.size()));
+    /// Writes these losses into an array with an element for each node. Throws as the function above does, and error with bad_length.
+    void node_losses(span<const std::uint32_t> nodes, span<std::uint64_t> into) const {
+        detail::expect_ok(dmf_session_node_losses(live(), nodes.data(), nodes.size(), into.data(), into.size()));
     }
 
     /// Returns what two arcs are worth together: at index k how much less the greatest value is if only arcs firsts[k] and

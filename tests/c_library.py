@@ -6,7 +6,7 @@ import ctypes
 import functools
 import re
 import subprocess
-from collections.abc import Callable, Sequence
+from collections.abc import Iterable, Sequence
 from ctypes import byref, c_size_t, c_uint8, c_uint32, c_uint64, c_void_p
 from pathlib import Path
 
@@ -225,31 +225,21 @@ class CSession:
         flows, side = (tuple(map(int, place))[:-1] for place in places)
         return value.value, flows, side
 
+    def losses(self, part: str, numbers: Sequence[int], count: int) -> tuple[int, ...]:
+        """Return what dmf_session_PART_losses puts into an array of this length for the arcs or the
+        nodes of these numbers. Arrays of length 0 are NULL. The place after the last stays, and a
+        refused call puts nothing."""
+        return self._told(f"{part}_losses", [(c_uint32, numbers)], count)
+
     def pair_losses(
         self, firsts: Sequence[int], seconds: Sequence[int], count: int
     ) -> tuple[int, ...]:
-        """Return what the call puts into an array of this length. Arrays of length 0 are NULL. The
-        place after the last stays, and a refused call puts nothing."""
-        places = odd_array(c_uint64, count)
-        before = bytes(places)
-        status = self.calls.dmf_session_pair_losses(
-            self.session,
-            array_of(c_uint32, firsts),
-            c_size_t(len(firsts)),
-            array_of(c_uint32, seconds),
-            c_size_t(len(seconds)),
-            places if count else None,
-            c_size_t(count),
-        )
-        assert bytes(places)[8 * count :] == before[8 * count :]
-        assert status == 0 or bytes(places) == before
-        want(status)
-        return tuple(map(int, places))[:-1]
+        """Return what the call puts into an array of this length, as losses does."""
+        return self._told("pair_losses", [(c_uint32, firsts), (c_uint32, seconds)], count)
 
     def second_gains(self, arcs: Sequence[int], count: int) -> tuple[int, ...]:
-        """Return what the call puts into an array of this length, as pair_losses does."""
-        given = array_of(c_uint32, arcs), c_size_t(len(arcs))
-        return self._gains(self.calls.dmf_session_second_gains, given, count)
+        """Return what the call puts into an array of this length, as losses does."""
+        return self._told("second_gains", [(c_uint32, arcs)], count)
 
     def new_arc_gains(
         self,
@@ -258,20 +248,24 @@ class CSession:
         capacities: Sequence[int],
         count: int,
     ) -> tuple[int, ...]:
-        """Return what the call puts into an array of this length, as pair_losses does."""
-        kinds = zip((c_uint32, c_uint32, c_uint64), (tails, heads, capacities))
-        given = [
-            part
-            for kind, column in kinds
-            for part in (array_of(kind, column), c_size_t(len(column)))
-        ]
-        return self._gains(self.calls.dmf_session_new_arc_gains, given, count)
+        """Return what the call puts into an array of this length, as losses does."""
+        columns = (c_uint32, tails), (c_uint32, heads), (c_uint64, capacities)
+        return self._told("new_arc_gains", columns, count)
 
-    def _gains(
-        self, call: Callable[..., int], given: Sequence[object], count: int
+    def _told(
+        self,
+        name: str,
+        columns: Iterable[tuple[type[ctypes._SimpleCData[int]], Sequence[int]]],
+        count: int,
     ) -> tuple[int, ...]:
         places = odd_array(c_uint64, count)
         before = bytes(places)
+        given = [
+            part
+            for kind, column in columns
+            for part in (array_of(kind, column), c_size_t(len(column)))
+        ]
+        call = getattr(self.calls, f"dmf_session_{name}")
         status = call(self.session, *given, places if count else None, c_size_t(count))
         assert bytes(places)[8 * count :] == before[8 * count :]
         assert status == 0 or bytes(places) == before

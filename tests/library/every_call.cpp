@@ -180,14 +180,18 @@ void losing() {
     std::array<std::uint64_t, 5> of_arcs{9, 9, 9, 9, 9};
     std::array<std::uint64_t, 4> of_nodes{9, 9, 9, 9};
     REFUSED(not_greatest, (void)session.arc_losses());
-    REFUSED(not_greatest, session.node_losses(of_nodes));
+    REFUSED(not_greatest, session.node_losses({1, 2, 3, 4}, of_nodes));
     session.solve();
     EXPECT(session.arc_losses() == numbers{3, 2, 1, 2, 3} && session.node_losses() == numbers{0, 3, 3, 0});
-    REFUSED(bad_length, session.arc_losses(of_nodes));
-    REFUSED(bad_length, session.node_losses(of_arcs));
+    EXPECT(session.arc_losses({3, 5}) == numbers{1, 3} && session.node_losses({3, 1}) == numbers{3, 0});
+    EXPECT(session.arc_losses({}).empty() && session.node_losses({}).empty());
+    REFUSED(bad_length, session.arc_losses({1, 2}, of_arcs));
+    REFUSED(bad_length, session.node_losses({1, 2}, of_nodes));
+    REFUSED(no_such_arc, (void)session.arc_losses({1, 6}));
+    REFUSED(no_such_node, (void)session.node_losses({0}));
     EXPECT(of_arcs[0] == 9 && of_nodes[3] == 9);
-    session.arc_losses(of_arcs);
-    session.node_losses(of_nodes);
+    session.arc_losses({5, 4, 3, 2, 1}, of_arcs);
+    session.node_losses({4, 3, 2, 1}, of_nodes);
     EXPECT(of_arcs == std::array<std::uint64_t, 5>{3, 2, 1, 2, 3} && of_nodes == std::array<std::uint64_t, 4>{0, 3, 3, 0});
     EXPECT(session.value() == 5 && session.past() == 1);
 }

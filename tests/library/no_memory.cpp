@@ -39,8 +39,8 @@ int main() {
     count += is_refused([&] { session.shut(2); });
     count += is_refused([&] { (void)session.side(); });
     std::vector<std::uint64_t> of_arcs(5, 9), of_nodes(4, 9);
-    count += is_refused([&] { session.arc_losses(of_arcs); });
-    count += is_refused([&] { session.node_losses(of_nodes); });
+    count += is_refused([&] { session.arc_losses({1, 2, 3, 4, 5}, of_arcs); });
+    count += is_refused([&] { session.node_losses({1, 2, 3, 4}, of_nodes); });
     std::vector<std::uint32_t> firsts(5, 9), seconds(5, 9);
     count += is_refused([&] { session.pair_losses({1, 2}, {3, 3}, {of_arcs.data(), 2}); });
     count += is_refused([&] { (void)session.worst_arcs(firsts, of_arcs); });

@@ -95,6 +95,7 @@ static enum dmf_status call(dmf_session *session, enum step step, struct outputs
 {
     static const uint64_t flows[ARCS] = {3, 2, 1, 2, 3};
     static const uint32_t firsts[] = {4, 2, 3}, seconds[] = {5, 4, 3}, arcs[] = {4, 6, 1}, tails[] = {3, 1, 4}, heads[] = {4, 4, 1};
+    static const uint32_t numbers[ARCS] = {1, 2, 3, 4, 5};
     static const uint64_t capacities[] = {9, 5, 9};
     static const uint8_t among[ARCS] = {1, 0, 0, 255, 2};
     switch (step) {
@@ -105,8 +106,8 @@ static enum dmf_status call(dmf_session *session, enum step step, struct outputs
     case FLOWS: return dmf_session_flows(session, to->flows, ARCS);
     case RANGE: return dmf_session_arc_range(session, 2, 3, to->tails, 3, to->heads, 3, to->capacities, 3, to->flows, 3, to->closed, 3);
     case SIDE: return dmf_session_side(session, to->side, NODES);
-    case ARC_LOSSES: return dmf_session_arc_losses(session, to->of_arcs, ARCS);
-    case NODE_LOSSES: return dmf_session_node_losses(session, to->of_nodes, NODES);
+    case ARC_LOSSES: return dmf_session_arc_losses(session, numbers, ARCS, to->of_arcs, ARCS);
+    case NODE_LOSSES: return dmf_session_node_losses(session, numbers, NODES, to->of_nodes, NODES);
     case PAIR_LOSSES: return dmf_session_pair_losses(session, firsts, 3, seconds, 3, to->losses, 3);
     case WORST_ARCS: return dmf_session_worst_arcs(session, NULL, 0, to->firsts, 2, to->losses, 2, &to->found);
     case WORST_NODES: return dmf_session_worst_nodes(session, to->firsts, MOST, to->losses, MOST, &to->found);

@@ -92,6 +92,7 @@ static void take_round(dmf_session *session)
 {
     uint8_t text[16384];
     uint64_t flows[2 * ARCS], losses[2 * ARCS], place, greatest;
+    static const uint32_t numbers[10] = {1, 2, 3, 4, 5, 6, 7, 8, 9, 10};
     uint32_t firsts[10], seconds[10];
     size_t length, found;
     struct seen before, after;
@@ -110,8 +111,7 @@ static void take_round(dmf_session *session)
     want(dmf_session_flows(session, flows, dmf_session_arcs(session)) == DMF_OK &&
              dmf_session_check(session, flows, dmf_session_arcs(session), &place) == DMF_OK,
          "the flow is not greatest");
-    want(dmf_session_arc_losses(session, losses, dmf_session_arcs(session)) == DMF_OK &&
-             dmf_session_node_losses(session, losses, NODES) == DMF_OK,
+    want(dmf_session_arc_losses(session, numbers, 10, losses, 10) == DMF_OK && dmf_session_node_losses(session, numbers, 10, losses, 10) == DMF_OK,
          "losses were refused");
     want(dmf_session_worst_nodes(session, firsts, 10, losses, 10, &found) == DMF_OK && found == 10 &&
              dmf_session_worst_arcs(session, NULL, 0, firsts, 10, losses, 10, &found) == DMF_OK && found == 10 &&

@@ -4,16 +4,24 @@ itself, and for each answer what is written."""
 
 from __future__ import annotations
 
-from ctypes import c_uint64
 from random import Random
 
 import pytest
 import random_cases
-from c_library import BAD_LENGTH, NOT_GREATEST, CSession, Library, Refused, library_folder
+from c_library import (
+    BAD_LENGTH,
+    NO_SUCH_ARC,
+    NO_SUCH_NODE,
+    NOT_GREATEST,
+    CSession,
+    Library,
+    Refused,
+    library_folder,
+)
 from c_losses import arcs_at, changed, left, present
 
-CALLS = "arc_losses", "node_losses"
-NODES, ARCS = 4, 5
+# The answer to a number that is none.
+PARTS = {"arc": NO_SUCH_ARC, "node": NO_SUCH_NODE}
 FEW, MANY, BATCHES = 200, 20_000, 4
 
 
@@ -22,13 +30,16 @@ def library() -> Library:
     return Library(library_folder())
 
 
+def of_all(session: CSession, part: str) -> tuple[int, ...]:
+    """The losses of all arcs or nodes."""
+    count = session.number(f"{part}s")
+    return session.losses(part, range(1, count + 1), count)
+
+
 def losses(session: CSession) -> tuple[tuple[int, ...], tuple[int, ...]]:
     """The losses of the arcs and of the nodes. The session is as it was."""
     before = session.state()
-    found = (
-        session.array("arc_losses"),
-        session.filled("node_losses", c_uint64, session.number("nodes")),
-    )
+    found = of_all(session, "arc"), of_all(session, "node")
     assert session.state() == before
     return found
 
@@ -88,35 +99,59 @@ def test_the_largest_sum_at_a_node(library: Library) -> None:
         assert losses(session)[1] == (0, 0, half - 9)
 
 
-@pytest.mark.parametrize(("call", "right"), zip(CALLS, (ARCS, NODES)))
-@pytest.mark.parametrize("count", [0, 1, 3, NODES, ARCS, 6])
-def test_an_array_of_another_length(library: Library, call: str, right: int, count: int) -> None:
-    """Of a flow that is not greatest too: the length is judged first."""
-    if count == right:
-        return
+def test_chosen_ones(library: Library) -> None:
+    """In the order in which they are asked for, also more than once."""
+    with library.example() as session:
+        session.step("solve")
+        before = session.state()
+        assert session.losses("arc", [3, 5, 3, 4], 4) == (1, 3, 1, 2)
+        assert session.losses("node", [3, 1, 2], 3) == (3, 0, 3)
+        assert session.losses("arc", [], 0) == session.losses("node", [], 0) == ()
+        assert session.state() == before
+
+
+def refused(session: CSession, status: int, part: str, numbers: list[int], count: int) -> None:
+    before = session.state()
+    with pytest.raises(Refused) as told:
+        session.losses(part, numbers, count)
+    assert told.value.status == status and session.state() == before
+
+
+@pytest.mark.parametrize("part", PARTS)
+@pytest.mark.parametrize("count", [0, 1, 3])
+def test_an_array_of_another_length(library: Library, part: str, count: int) -> None:
+    """Of a flow that is not greatest, and of numbers that are not there, too: the length is judged
+    first."""
     with library.example() as session:
         for _ in range(2):
-            before = session.state()
-            with pytest.raises(Refused) as refused:
-                session.filled(call, c_uint64, count)
-            assert refused.value.status == BAD_LENGTH and session.state() == before
+            refused(session, BAD_LENGTH, part, [1, 2], count)
+            refused(session, BAD_LENGTH, part, [0, 9], count)
             session.step("solve")
 
 
-@pytest.mark.parametrize(("call", "right"), zip(CALLS, (ARCS, NODES)))
-def test_a_flow_that_is_not_greatest(library: Library, call: str, right: int) -> None:
+@pytest.mark.parametrize(("part", "status"), PARTS.items())
+def test_an_arc_or_a_node_that_is_not_there(library: Library, part: str, status: int) -> None:
+    """Of a flow that is not greatest too: the numbers are judged before it."""
+    with library.example() as session:
+        last = session.number(f"{part}s")
+        for _ in range(2):
+            for number in 0, last + 1, 2**32 - 1:
+                refused(session, status, part, [number], 1)
+                refused(session, status, part, [1, number, 2], 3)
+            session.step("solve")
+
+
+@pytest.mark.parametrize("part", PARTS)
+def test_a_flow_that_is_not_greatest(library: Library, part: str) -> None:
     with library.example() as session:
         for step in None, ("solve",), ("cap", 1, 9), ("cap", 4, 9):
             if step:
                 session.step(*step)
             # A larger arc 1 alone brings no more.
             if step in (("solve",), ("cap", 1, 9)):
-                assert len(session.filled(call, c_uint64, right)) == right
+                assert len(of_all(session, part)) == session.number(f"{part}s")
                 continue
-            before = session.state()
-            with pytest.raises(Refused) as refused:
-                session.filled(call, c_uint64, right)
-            assert refused.value.status == NOT_GREATEST and session.state() == before
+            refused(session, NOT_GREATEST, part, [1, 2], 2)
 
 
 def by_steps(session: CSession, word: str, count: int) -> list[int]:

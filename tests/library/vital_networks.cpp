@@ -13,6 +13,7 @@
 #include <algorithm>
 #include <cstdio>
 #include <cstdlib>
+#include <numeric>
 #include <random>
 #include <tuple>
 #include <vector>
@@ -154,12 +155,20 @@ std::vector<std::uint8_t> some_arcs(std::size_t count)
     return among;
 }
 
+Numbers numbers_to(std::size_t last)
+{
+    Numbers numbers(last);
+    std::iota(numbers.begin(), numbers.end(), 1U);
+    return numbers;
+}
+
 void compare_arcs(const dmf_session *session, const Network &network, Number value)
 {
     const std::size_t count = network.arcs.size();
     const std::vector<std::uint8_t> among = some_arcs(count);
     Values found(count, 99);
-    want(dmf_session_arc_losses(session, found.data(), count), network, "arcs");
+    const Numbers numbers = numbers_to(count);
+    want(dmf_session_arc_losses(session, numbers.data(), count, found.data(), count), network, "arcs");
     std::vector<Loss> all, some;
     for (std::uint32_t j = 1; j <= count; j++) {
         all.push_back({value - value_of(without(network, j - 1)), j, 0});
@@ -178,7 +187,8 @@ void compare_arcs(const dmf_session *session, const Network &network, Number val
 void compare_nodes(const dmf_session *session, const Network &network, Number value)
 {
     Values found(network.nodes, 99);
-    want(dmf_session_node_losses(session, found.data(), network.nodes), network, "nodes");
+    const Numbers numbers = numbers_to(network.nodes);
+    want(dmf_session_node_losses(session, numbers.data(), network.nodes, found.data(), network.nodes), network, "nodes");
     std::vector<Loss> all;
     for (std::uint32_t v = 1; v <= network.nodes; v++) {
         if (v == network.source || v == network.sink) {
@@ -263,9 +273,7 @@ void compare_gains(const Network &network, const char *what, Number value, const
 
 void compare_seconds(const dmf_session *session, const Network &network, Number value)
 {
-    Numbers numbers;
-    for (std::uint32_t j = 1; j <= network.arcs.size(); j++)
-        numbers.push_back(j);
+    const Numbers numbers = numbers_to(network.arcs.size());
     Values found(numbers.size(), 99);
     const enum dmf_status status = dmf_session_second_gains(session, numbers.data(), numbers.size(), found.data(), found.size());
     compare_gains(network, "second arc", value, network.arcs, status, found);

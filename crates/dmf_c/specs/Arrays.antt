@@ -12,7 +12,6 @@ use Rattle.dmf_state.specs.Network.{Network}
 use Rattle.dmf_state.specs.NetworkState.{NetworkState}
 use Rattle.dmf_solver.specs.Greatest.{IsGreatest, IsSurpassed}
 use Rattle.dmf_solver.specs.Optimal.{IsOptimal}
-use Rattle.dmf_vital.specs.Loss.{IsLossOfArc, IsLossAt}
 use Rattle.dmf_c.specs.Status.{DMF_OK, DMF_NO_MEMORY, DMF_NOT_GREATEST, DMF_BAD_LENGTH, DMF_OVER_CAPACITY, DMF_NOT_CONSERVED, DMF_NEGATIVE}
 
 -- the answer about an array of this length, which should have that one
@@ -71,23 +70,3 @@ Judges s flows code place =
     MatchBool (nat_eq (length flows) (length s.network.arcs))
     (((code ≡ DMF_NO_MEMORY) × (place ≡ 0)) ⊎ JudgesFlow s flows code place)
     ((code ≡ DMF_BAD_LENGTH) × (place ≡ 0))
-
--- The array has what is lost without each arc: at index `j - 1`, how much less the greatest value is if arc `j` is closed.
-pub record AreArcLosses (n : Network) (losses : List ℕ) : Type 0 where
-  pub size : length losses ≡ length n.arcs
-  pub each : (k : ℕ) → k < length losses → IsLossOfArc n (k + 1) (slice_index losses k)
-
--- The array has what is lost without each node: at index `v - 1`, how much less the greatest value is if each arc at node `v` is closed, and
--- 0 for the source and the sink.
-pub record AreNodeLosses (n : Network) (losses : List ℕ) : Type 0 where
-  pub size : length losses ≡ n.nodes
-  pub each : (k : ℕ) → k < length losses → IsLossAt n (k + 1) (slice_index losses k)
-
--- The answer to a caller that asks for losses in the right way: that no flow has a larger value, or that some flow has; or that memory was refused.
-abbrev pub TellsLosses : NetworkState → ℕ → Type 0
-TellsLosses s code = (code ≡ DMF_NO_MEMORY) ⊎ TellsGreatest s s.flows code
-
--- The answer to a caller that asks for losses with an array of length `given`, which should have length `wanted`: that the lengths differ, or as
--- above.
-abbrev pub AnswersLosses : NetworkState → ℕ → ℕ → ℕ → Type 0
-AnswersLosses s given wanted code = MatchBool (nat_eq given wanted) (TellsLosses s code) (code ≡ DMF_BAD_LENGTH)

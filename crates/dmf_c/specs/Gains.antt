@@ -1,15 +1,12 @@
 -- What C gets of new arcs, and of second arcs beside those that are there.
 -- Public: a public contract says no more than this.
-use Rattle.std.specs.Prelude.{ℕ, ◌≡◌, ◌<◌, ◌⊎◌, Bool, ◌==◌, ◌&&◌, List, [], ◌∷◌, length, map, slice_index, slice_index_or, MatchBool}
-use Rattle.std.specs.List.{list_all}
-use Rattle.dmf_node.specs.Node.{is_node}
+use Rattle.std.specs.Prelude.{ℕ, ◌≡◌, ◌<◌, ◌⊎◌, ◌==◌, ◌&&◌, List, [], ◌∷◌, length, map, slice_index, slice_index_or, MatchBool}
 use Rattle.dmf_state.specs.declared.arc.Arc.{Arc}
 use Rattle.dmf_state.specs.Arc.{no_arc, open_arc}
 use Rattle.dmf_state.specs.Network.{Network, arc_number}
 use Rattle.dmf_state.specs.NetworkState.{NetworkState}
 use Rattle.dmf_vital.specs.Loss.{IsGainOfArc, TakesFourOfEach}
-use Rattle.dmf_c.specs.Arrays.{TellsLosses}
-use Rattle.dmf_c.specs.Pairs.{are_arcs}
+use Rattle.dmf_c.specs.Losses.{TellsLosses, are_arcs, are_nodes}
 use Rattle.dmf_c.specs.Status.{DMF_NO_SUCH_NODE, DMF_NO_SUCH_ARC, DMF_TOO_MANY_ARCS, DMF_SUM_TOO_LARGE, DMF_BAD_LENGTH, IsOneOf}
 
 -- the arcs of these numbers
@@ -20,10 +17,6 @@ arcs_of n numbers = map (arc_number n) numbers
 abbrev pub open_arcs : List ℕ → List ℕ → List ℕ → List Arc
 open_arcs (tail ∷ tails) (head ∷ heads) (cap ∷ caps) = open_arc tail head cap ∷ open_arcs tails heads caps
 open_arcs tails heads caps = []
-
--- whether each number is that of a node
-abbrev pub are_nodes : Network → List ℕ → Bool
-are_nodes n numbers = list_all (is_node n.nodes) numbers
 
 -- The array has what each of these arcs gains as a new arc: at index `k`, how much greater the greatest value is if only an open arc with the
 -- tail, the head and the capacity of the arc at index `k` is added.

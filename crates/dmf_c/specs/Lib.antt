@@ -6,6 +6,7 @@ pub mod Building
 pub mod Built
 pub mod Opening
 pub mod Arrays
+pub mod Losses
 pub mod Pairs
 pub mod Gains
 pub mod Ranges

@@ -1,16 +1,11 @@
 -- What C gets of chosen pairs of arcs.
 -- Public: a public contract says no more than this.
-use Rattle.std.specs.Prelude.{ℕ, ◌≡◌, ◌<◌, Bool, ◌==◌, ◌&&◌, List, length, slice_index, MatchBool}
-use Rattle.std.specs.List.{list_all}
-use Rattle.dmf_state.specs.Network.{Network, has_arc}
+use Rattle.std.specs.Prelude.{ℕ, ◌≡◌, ◌<◌, ◌==◌, ◌&&◌, List, length, slice_index, MatchBool}
+use Rattle.dmf_state.specs.Network.{Network}
 use Rattle.dmf_state.specs.NetworkState.{NetworkState}
 use Rattle.dmf_vital.specs.Loss.{IsLossOfPair}
-use Rattle.dmf_c.specs.Arrays.{TellsLosses}
+use Rattle.dmf_c.specs.Losses.{TellsLosses, are_arcs}
 use Rattle.dmf_c.specs.Status.{DMF_NO_SUCH_ARC, DMF_BAD_LENGTH}
-
--- whether each number is that of an arc
-abbrev pub are_arcs : Network → List ℕ → Bool
-are_arcs n numbers = list_all (has_arc n) numbers
 
 -- The array has what is lost without each pair: at index `k`, how much less the greatest value is if the arcs number `firsts[k]` and `seconds[k]`
 -- are closed.

@@ -5,7 +5,7 @@ use Rattle.dmf_state.specs.Network.{Network}
 use Rattle.dmf_state.specs.NetworkState.{NetworkState}
 use Rattle.dmf_vital.specs.declared.worst.NumberedLoss.{NumberedLoss}
 use Rattle.dmf_vital.specs.Worst.{AreWorst}
-use Rattle.dmf_c.specs.Arrays.{TellsLosses}
+use Rattle.dmf_c.specs.Losses.{TellsLosses}
 use Rattle.dmf_c.specs.Ranges.{is_column}
 use Rattle.dmf_c.specs.Status.{DMF_BAD_LENGTH}
 

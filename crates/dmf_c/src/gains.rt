@@ -2,13 +2,13 @@
 ghost use Rattle.std.specs.Prelude.{◌≡◌, ◌≢◌, true, length, All, IfOk};
 ghost use Rattle.dmf_state.specs.Network.{has_arc};
 ghost use Rattle.dmf_c.specs.Codes.{OfPresent};
-ghost use Rattle.dmf_c.specs.Gains.{AnswersNewArcGains, AnswersSecondGains, AreGains, TellsGains, are_nodes, arcs_of, open_arcs};
+ghost use Rattle.dmf_c.specs.Gains.{AnswersNewArcGains, AnswersSecondGains, AreGains, TellsGains, arcs_of, open_arcs};
 ghost use Rattle.dmf_c.specs.Status.{DMF_OK};
 
 use crate::building::fault_code;
 use crate::checking::greatest;
 use crate::handle::Handle;
-use crate::pairs::are_arcs;
+use crate::losses::{are_arcs, are_nodes};
 use dmf_state::{Arc, State};
 use dmf_vital::arc_gains;
 use std::alloc::{AllocError, Global};
@@ -142,16 +142,4 @@ fn open_arcs(
         arcs.push(Arc::open(tails[i], heads[i], capacities[i]))?;
     }
     Ok(arcs)
-}
-
-/// Whether each of these is the number of a node.
-fn are_nodes(state: &State, numbers: &[u32]) -> bool
-    ensures { result ≡ are_nodes state.now.network numbers.now }
-{
-    for i in 0..numbers.len() {
-        if !(1 <= numbers[i] && numbers[i] <= state.nodes()) {
-            return false;
-        }
-    }
-    true
 }

@@ -1,12 +1,12 @@
 //! What chosen pairs of arcs of the present network are worth.
 ghost use Rattle.std.specs.Prelude.{◌≡◌, ◌≢◌, length};
-ghost use Rattle.dmf_state.specs.Network.{has_arc};
 ghost use Rattle.dmf_c.specs.Codes.{OfPresent};
-ghost use Rattle.dmf_c.specs.Pairs.{AnswersPairLosses, ArePairLosses, are_arcs};
+ghost use Rattle.dmf_c.specs.Pairs.{AnswersPairLosses, ArePairLosses};
 ghost use Rattle.dmf_c.specs.Status.{DMF_OK};
 
 use crate::checking::greatest;
 use crate::handle::Handle;
+use crate::losses::are_arcs;
 use dmf_state::State;
 use dmf_vital::pair_losses;
 use std::alloc::Global;
@@ -57,23 +57,4 @@ fn copy_pair_losses(
         }
         Err(_) => 1,
     }
-}
-
-/// Whether each of these is the number of an arc.
-pub fn are_arcs(state: &State, numbers: &[u32]) -> bool
-    ensures { result ≡ are_arcs state.now.network numbers.now }
-{
-    for i in 0..numbers.len() {
-        if !has_arc(state, numbers[i]) {
-            return false;
-        }
-    }
-    true
-}
-
-/// Whether there is an arc of this number.
-fn has_arc(state: &State, number: u32) -> bool
-    ensures { result ≡ has_arc state.now.network number }
-{
-    1 <= number && number as usize <= state.arcs().len()
 }

@@ -4,7 +4,7 @@ ghost use Rattle.dmf_solver.specs.Greatest.{IsGreatest};
 ghost use Rattle.dmf_vital.specs.Worst.{AreWorst, IsArcLossAmong, IsNodeLoss, IsPairLossAmong};
 ghost use Rattle.dmf_c.specs.Codes.{OfPresent};
 ghost use Rattle.dmf_c.specs.Status.{DMF_OK};
-ghost use Rattle.dmf_c.specs.Arrays.{AnswersLosses};
+ghost use Rattle.dmf_c.specs.Losses.{AnswersLosses};
 ghost use Rattle.dmf_c.specs.Worst.{AnswersWorstArcs, AnswersWorstPairs, BeginsWith, HasWorst, HasWorstPairs, chosen};
 
 use crate::checking::greatest;

@@ -1,8 +1,9 @@
 -- What the greatest value gains by a new arc, told by what is lost of two arcs of an extended network: one from the source to its tail, and
 -- one from its head to the sink.
-use Rattle.std.proofs.Common.{ℕ, ◌≡◌, ◌+◌, ◌-◌, ◌≤◌, ◌&&◌, ◌⊎◌, inl, inr, Bool, true, false, not, cond, [], ◌∷◌, ◌++◌, refl, ap, sym, ◌∙◌}
+use Rattle.std.proofs.Common.{length, ℕ, ◌≡◌, ◌+◌, ◌-◌, ◌≤◌, ◌&&◌, ◌⊎◌, inl, inr, Bool, true, false, not, cond, [], ◌∷◌, ◌++◌, refl, ap, sym, ◌∙◌}
 use Rattle.std.proofs.Common.{subst, arith, ⊎_elim}
 use Rattle.std.proofs.lemmas.Int.{ints}
+use Rattle.std.proofs.lemmas.List.{take_all}
 use Rattle.std.proofs.lemmas.List.Sums.{sum_by_push, sum_by-set}
 use Rattle.std.proofs.lemmas.Slice.Zip.{AllZip-long}
 use Rattle.dmf_node.specs.Node.{IsNode}
@@ -75,7 +76,11 @@ some-out true false c = inr (inr refl)
 
 -- ---- an extended network
 
-module _ (n m : Network) (extended : IsExtended n m) (value : ℕ) (network : IsNetwork n) (wide : IsNetwork m) (is : IsGreatestValue n value) where
+module _ (n m : Network) (extended : IsExtended n m (length n.arcs)) (value : ℕ) (network : IsNetwork n) (wide : IsNetwork m) (is : IsGreatestValue n value) where
+  cuts : (has : ℕ → Bool) → has n.source ≡ true → has n.sink ≡ false → cut_capacity m.arcs has ≡ cut_capacity n.arcs has + extended.total
+  cuts has inside outside =
+      extended.cuts has inside outside ∙ ap (λ arcs. cut_capacity arcs has + extended.total) (take_all (length n.arcs) n.arcs (omega arith))
+
   -- A cut of one network is one of the other.
   cut-there : (has : ℕ → Bool) → IsCut n has → IsCut m has
   cut-there has cut = record {
@@ -105,8 +110,8 @@ module _ (n m : Network) (extended : IsExtended n m) (value : ℕ) (network : Is
         least,
         tight.capacity,
         other.capacity,
-        extended.cuts tight.has tight.cut.source tight.cut.sink,
-        extended.cuts other.has back.source back.sink,
+        cuts tight.has tight.cut.source tight.cut.sink,
+        cuts other.has back.source back.sink,
       )
 
   module _ (i loss : ℕ) (lost : IsLossOfArc m i loss) where
@@ -120,7 +125,7 @@ module _ (n m : Network) (extended : IsExtended n m) (value : ℕ) (network : Is
           arith,
           least,
           cut-closed m i has lost.0,
-          extended.cuts has cut.source cut.sink,
+          cuts has cut.source cut.sink,
           value-extended lost.1.before lost.1.greatest_before,
           lost.1.difference,
         )
@@ -142,7 +147,7 @@ module _ (n m : Network) (extended : IsExtended n m) (value : ℕ) (network : Is
             arith,
             tight.capacity,
             cut-closed m i tight.has lost.0,
-            extended.cuts tight.has back.source back.sink,
+            cuts tight.has back.source back.sink,
             value-extended lost.1.before lost.1.greatest_before,
             lost.1.difference,
           );
@@ -178,7 +183,7 @@ none-inside n arc value more has fits cut capacity none is now =
 -- ---- the gain
 
 module _ (n m : Network) (arc : Arc) (first tail_loss head_loss : ℕ) (network : IsNetwork n) (wide : IsNetwork m)
-    (fits : IsNetwork (with_new_arc n arc)) (extended : IsExtended n m) (detours : HasDetours n m first arc) (tail : IsLossOfArc m first tail_loss) (head : IsLossOfArc m (first + 3) head_loss)
+    (fits : IsNetwork (with_new_arc n arc)) (extended : IsExtended n m (length n.arcs)) (detours : HasDetours n m first arc) (tail : IsLossOfArc m first tail_loss) (head : IsLossOfArc m (first + 3) head_loss)
     (value more : ℕ) (is : IsGreatestValue n value) (now : IsGreatestValue (with_new_arc n arc) more) where
   as-new : (has : ℕ → Bool) → IsCut n has → IsCut (with_new_arc n arc) has
   as-new has cut = record { of_nodes = cut.of_nodes; source = cut.source; sink = cut.sink }

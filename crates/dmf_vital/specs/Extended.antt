@@ -1,6 +1,6 @@
 -- Networks to which arcs are added that bring the same to each cut, so that the losses of these arcs tell what a new arc gains.
 -- Private: only contracts inside the crate and proofs use this.
-use Rattle.std.specs.Prelude.{ℕ, ◌≡◌, ◌≢◌, ◌+◌, ◌<◌, Bool, true, false, List, length, slice_index, slice_index_or}
+use Rattle.std.specs.Prelude.{ℕ, ◌≡◌, ◌≢◌, ◌+◌, ◌<◌, Bool, true, false, List, length, take, slice_index, slice_index_or}
 use Rattle.dmf_state.specs.declared.arc.Arc.{Arc}
 use Rattle.dmf_state.specs.Arc.{no_arc, open_arc}
 use Rattle.dmf_state.specs.Cut.{cut_capacity}
@@ -21,13 +21,15 @@ with_detour n v cap = with_last_arc (with_last_arc n (open_arc n.source v cap)) 
 abbrev pub with_detours : Network → Arc → Network
 with_detours n arc = with_detour (with_detour n arc.tail arc.cap) arc.head arc.cap
 
--- Network `m` has the nodes of network `n`, and each set with the source and without the sink has this capacity more.
-pub record IsExtended (n m : Network) : Type 0 where
+-- Network `m` has the nodes of network `n`, and so many of its arcs and others. Each set with the source and without the sink has this capacity
+-- more than over those arcs.
+pub record IsExtended (n m : Network) (count : ℕ) : Type 0 where
   pub nodes : m.nodes ≡ n.nodes
   pub source : m.source ≡ n.source
   pub sink : m.sink ≡ n.sink
   pub total : ℕ
-  pub cuts : (has : ℕ → Bool) → has n.source ≡ true → has n.sink ≡ false → cut_capacity m.arcs has ≡ cut_capacity n.arcs has + total
+  pub cuts : (has : ℕ → Bool) → has n.source ≡ true → has n.sink ≡ false
+      → cut_capacity m.arcs has ≡ cut_capacity (take count n.arcs) has + total
 
 -- Each arc of the first network is an arc of the second, under the same number.
 abbrev pub KeepsArcs : Network → Network → Type 0
@@ -59,7 +61,7 @@ ArePlaced n m arcs firsts count = (k : ℕ) → k < count → IsPlaced n m (slic
 
 -- The state's network is extended for these new arcs, and its flow is greatest.
 pub record IsExtendedFor (n : Network) (arcs : List Arc) (e : Extended) : Type 0 where
-  pub extended : IsExtended n e.state.network
+  pub extended : IsExtended n e.state.network (length n.arcs)
   pub greatest : IsGreatest e.state.network e.state.flows
   pub one_each : length e.firsts.items ≡ length arcs
   pub placed : ArePlaced n e.state.network arcs e.firsts.items (length arcs)

@@ -19,10 +19,10 @@ use dmf_solver::smallest_side;
 use dmf_state::{Arc, MAX_ARCS, NetFault, NoMemory, Side, State};
 use std::alloc::{AllocError, Global};
 
-/// A copy of a state with more arcs, by whose losses the gains of new arcs are found.
+/// A state with the arcs of another and more, by whose losses the gains of new arcs are found.
 #[derive(Drop)]
 pub struct Extended {
-    /// The copy. Its flow is greatest.
+    /// The larger state. Its flow is greatest.
     pub state: State,
     /// The number of the first of four arcs for each new arc; 0 if the new arc gains nothing.
     pub firsts: Vec<u32>,
@@ -34,8 +34,8 @@ pub struct Extended {
 /// Fails with [`NetFault::NoSuchNode`] if an end is not a node of the network, with [`NetFault::TooManyArcs`] or [`NetFault::SumTooLarge`] if
 /// it cannot take four more arcs of the capacity of each of these, and with [`NetFault::NoMemory`] if memory is refused.
 ///
-/// Looks at each arc of a copy of the state some times, and then, for each new arc that leads out of the smallest minimum cut, moves flow
-/// from two of the four arcs that the copy has for it to other ways, as [`arc_losses`](crate::arc_losses) does.
+/// Looks at each arc of a larger state some times, and then, for each new arc that leads out of the smallest minimum cut, moves flow
+/// from two of the four arcs that it has for it to other ways, as [`arc_losses`](crate::arc_losses) does.
 pub fn arc_gains(alloc: Global, state: &State, arcs: &[Arc]) -> Result<Vec<u64>, NetFault>
     requires { IsGreatest state.now.network state.now.flows }
     ensures refused { IfErr result (λ fault. TakesFourOfEach state.now.network arcs.now → fault ≡ NetFault.NoMemory) }
@@ -105,7 +105,7 @@ fn find_gains(
     requires there { (k : ℕ) → k < length arcs.now → HasOwnArcs more.now.network (slice_index firsts.now k) }
     requires greatest { IsGreatest more.now.network more.now.flows }
     ensures one_each { IfOk result (λ gains. length gains.items ≡ length arcs.now) }
-    ensures gains { IfOk result (λ gains. (n : Network) → IsExtended n more.now.network
+    ensures gains { IfOk result (λ gains. (n : Network) → IsExtended n more.now.network (length n.arcs)
         → ArePlaced n more.now.network arcs.now firsts.now (length arcs.now) → (k : ℕ) → k < length arcs.now
         → IsGainOfArc n (slice_index_or arcs.now k no_arc) (slice_index gains.items k)) }
 {
@@ -118,7 +118,8 @@ fn find_gains(
     Ok(gains)
 }
 
-/// Adds to a copy of the state what finds the gains of these new arcs, and solves.
+/// Makes a state of the same nodes with what finds the gains of these new arcs, and after it the state's own arcs and flow. Solves. A
+/// search looks at the arcs of a node from the last one on, so at the state's own first.
 fn extend(alloc: Global, state: &State, arcs: &[Arc]) -> Result<Extended, NoMemory>
     requires { IsGreatest state.now.network state.now.flows }
     ensures { IfOk result (IsExtendedFor state.now.network arcs.now) }
@@ -126,16 +127,52 @@ fn extend(alloc: Global, state: &State, arcs: &[Arc]) -> Result<Extended, NoMemo
     let Ok(side) = smallest_side(alloc, state) else {
         return Err(NoMemory);
     };
-    let mut more = state.copy(alloc)?;
+    let mut more = State::new(alloc, state.nodes(), state.source(), state.sink());
     let mut firsts = make_firsts(alloc, arcs.len())?;
     for k in 0..arcs.len() {
         firsts[k] = place(state, &side, &mut more, arcs[k])?;
     }
-    solve(alloc, &mut more)?;
-    Ok(Extended {
-        state: more,
-        firsts,
-    })
+    add_own(state, &mut more)?;
+    let state = solved_from(alloc, &more, state.flows())?;
+    Ok(Extended { state, firsts })
+}
+
+/// Adds the state's arcs to a state of the same nodes, open ones and, without capacity, closed ones.
+fn add_own(state: &State, more: &mut State) -> Result<(), NoMemory>
+    requires { IsExtended state.now.network more.old.network 0 }
+    ensures extended { OnOk result (IsExtended state.now.network more.new.network (length state.now.network.arcs)) }
+    ensures keeps { OnOk result (KeepsArcs more.old.network more.new.network) }
+{
+    for k in 0..state.arcs().len() {
+        let arc = state.arcs()[k];
+        add(more, arc.tail, arc.head, arc.cap)?;
+    }
+    Ok(())
+}
+
+/// The state with these flows on its last arcs, solved.
+fn solved_from(alloc: Global, more: &State, flows: &[u64]) -> Result<State, NoMemory>
+    ensures network { IfOk result (λ solved. solved.network ≡ more.now.network) }
+    ensures greatest { IfOk result (λ solved. IsGreatest solved.network solved.flows) }
+{
+    let flows = flows_at_end(alloc, more.arcs().len(), flows)?;
+    let Ok(mut solved) = more.with_flows(alloc, flows) else {
+        return Err(NoMemory);
+    };
+    solve(alloc, &mut solved)?;
+    Ok(solved)
+}
+
+/// So many numbers: these at the end, if they are no more, and 0 before them.
+fn flows_at_end(alloc: Global, count: usize, flows: &[u64]) -> Result<Vec<u64>, NoMemory>
+    ensures { IfOk result (λ all. length all.items ≡ count) }
+{
+    let mut all = vec![in alloc; 0u64; count]?;
+    let own = flows.len().min(count);
+    for k in 0..own {
+        all[count - own + k] = flows[k];
+    }
+    Ok(all)
 }
 
 /// As many numbers, all 0.
@@ -151,8 +188,8 @@ fn place(state: &State, side: &Side, more: &mut State, arc: Arc) -> Result<u32, 
     requires greatest { IsGreatest state.now.network state.now.flows }
     requires least { IsMinimumCut state.now.network (has_node side.now.ids) }
     requires capacity { pos (cut_capacity state.now.network.arcs (has_node side.now.ids)) ≡ flow_value state.now.network state.now.flows }
-    requires extended { IsExtended state.now.network more.old.network }
-    ensures extended { OnOk result (IsExtended state.now.network more.new.network) }
+    requires extended { IsExtended state.now.network more.old.network 0 }
+    ensures extended { OnOk result (IsExtended state.now.network more.new.network 0) }
     ensures keeps { OnOk result (KeepsArcs more.old.network more.new.network) }
     ensures placed { IfOk result (IsPlaced state.now.network more.new.network arc) }
 {
@@ -205,7 +242,7 @@ fn gain_of(
     requires there { HasOwnArcs more.now.network first }
     requires ready { IsReady more.now rerouting.old }
     requires ranks { AreRanks more.now.network rerouting.old.flows.items ranks.now }
-    ensures gain { IfOk result (λ gain. (n : Network) (arc : Arc) → IsExtended n more.now.network → IsPlaced n more.now.network arc first
+    ensures gain { IfOk result (λ gain. (n : Network) (arc : Arc) → IsExtended n more.now.network (length n.arcs) → IsPlaced n more.now.network arc first
         → arc.cap ≡ cap → IsGainOfArc n arc gain) }
     ensures ready { IsReady more.now rerouting.new }
     ensures ranks { AreRanks more.now.network rerouting.new.flows.items ranks.now }

@@ -7,7 +7,9 @@ pub use laws::{
     idle_arc_loses_nothing, loss_is_flow, node_has_loss, node_loss_is_flow, pair_has_loss,
     second_has_gain, shutting_leaves_out, worst_is_most_vital,
 };
-pub use loss::{arc_losses, node_losses, value_without_arc, value_without_node};
+pub use loss::{
+    arc_losses, arc_losses_of, node_losses, node_losses_of, value_without_arc, value_without_node,
+};
 pub use pairs::{pair_losses, worst_pairs, worst_pairs_among};
 pub use worst::{NumberedLoss, worst_arcs, worst_arcs_among, worst_nodes};
 

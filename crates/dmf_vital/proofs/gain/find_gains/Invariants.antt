@@ -12,6 +12,6 @@ invariant-loop-k l = record {
   ready : IsReady l.more l.rerouting;
   ranks : AreRanks l.more.network l.rerouting.flows.items l.ranks.items;
   one_each : length l.gains.items ≡ length l.arcs;
-  gains : (n : Network) → IsExtended n l.more.network → ArePlaced n l.more.network l.arcs l.firsts (length l.arcs) → (i : ℕ) → i < l.k
+  gains : (n : Network) → IsExtended n l.more.network (length n.arcs) → ArePlaced n l.more.network l.arcs l.firsts (length l.arcs) → (i : ℕ) → i < l.k
       → IsGainOfArc n (get_or l.arcs i no_arc) (get_or l.gains.items i 0);
 }

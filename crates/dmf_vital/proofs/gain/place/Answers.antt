@@ -20,13 +20,13 @@ after c = c.in_ok-add_detour-2.ensures ∙ ap (λ m. with_detour m c.args.arc.he
 
 long : (c : After-arcs) → length c.arcs.result.now ≡ length c.args.more.now.network.arcs + 4
 long c = ap length c.arcs.ensures.value ∙ ap (λ (m : Network). length m.arcs) (after c)
-    ∙ long-detours c.args.state.now.network c.args.more.now.network c.args.arc c.requires.extended
+    ∙ long-detours c.args.state.now.network c.args.more.now.network c.args.arc 0 c.requires.extended
 
 pub returns-clause-extended : goal.returns-clause-extended
 returns-clause-extended c =
     let n = c.args.state.now.network in
-    subst (IsExtended n) (sym (after c))
-    (extended-detours n c.args.more.now.network c.args.arc c.requires.extended)
+    subst (λ m. IsExtended n m 0) (sym (after c))
+    (extended-detours n c.args.more.now.network c.args.arc 0 c.requires.extended)
 
 pub returns-clause-keeps : goal.returns-clause-keeps
 returns-clause-keeps c = subst (KeepsArcs c.args.more.now.network) (sym (after c)) (keeps-detours c.args.more.now.network c.args.arc)
@@ -38,5 +38,5 @@ returns-clause-placed c =
     let same = c.in-Ok.ensures.arc ∙ ap (λ v. open_arc v c.from-2.result arc.cap) c.from.ensures ∙ ap (λ v. open_arc arc.tail v arc.cap) c.from-2.ensures in
     let first : ℕ = length c.arcs.result.now - 3 in
     subst (λ m. IsPlaced n m arc first) (sym (after c))
-    (placed-some n c.args.more.now.network arc c.in-Ok.field-0 first c.requires.extended same c.in-Ok.ensures.fits.network
+    (placed-some n c.args.more.now.network arc c.in-Ok.field-0 first 0 c.requires.extended same c.in-Ok.ensures.fits.network
     (omega (arith, long c)))

@@ -1,13 +1,13 @@
-use Rattle.std.proofs.Common.{ℕ, ◌≡◌, ◌+◌, ◌<◌, length, get_or}
+use Rattle.std.proofs.Common.{ℕ, ◌≡◌, ◌<◌, length, get_or}
 use Rattle.dmf_vital.specs.Loss.{IsLossAt}
 use Rattle.dmf_vital.specs.Ranks.{AreRanks}
 use Rattle.dmf_vital.specs.Shifted.{IsReady}
-use Rattle.dmf_vital.proofs.loss.node_losses.Given as goal
+use Rattle.dmf_vital.proofs.loss.node_losses_of.Given as goal
 
 abbrev pub invariant-loop-k : goal.invariant-loop-k
 invariant-loop-k l = record {
   ready : IsReady l.state l.rerouting;
   ranks : AreRanks l.state.network l.rerouting.flows.items l.ranks.items;
-  one_each : length l.losses.items ≡ l.state.network.nodes;
-  losses : (i : ℕ) → i < l.k → IsLossAt l.state.network (i + 1) (get_or l.losses.items i 0);
+  one_each : length l.losses.items ≡ length l.nodes;
+  losses : (i : ℕ) → i < l.k → IsLossAt l.state.network (get_or l.nodes i 0) (get_or l.losses.items i 0);
 }

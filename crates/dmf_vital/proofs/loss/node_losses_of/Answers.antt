@@ -1,0 +1,39 @@
+use Rattle.std.proofs.Common.{ℕ, ◌≡◌, ◌≢◌, ◌+◌, ◌<◌, length, get_or, set, ap, sym, ◌∙◌, subst, arith, ⊎_elim, true}
+use Rattle.std.proofs.lemmas.Bool.{cases_eq}
+use Rattle.std.proofs.lemmas.List.{get_or-set_same, get_or-set_other, length-set}
+use Rattle.std.proofs.lemmas.List.Elements.{All-get_or}
+use Rattle.dmf_node.specs.Node.{is_node}
+use Rattle.dmf_state.proofs.IdleArc.{IsNode-is_node}
+use Rattle.dmf_vital.specs.Loss.{IsLossAt}
+use Rattle.dmf_vital.specs.Ranks.{AreRanks}
+use Rattle.dmf_vital.proofs.loss.node_losses_of.Goals as goal
+
+pub loop-k-preserved : goal.loop-k-preserved
+loop-k-preserved c =
+    let n = c.args.state.now.network in
+    let k : ℕ = c.loop-k.k in
+    let nodes = c.args.nodes.now in
+    let old = c.loop-k.losses.items in
+    let loss : ℕ = c.in_ok-losses-2.field-0 in
+    let inside : k < length old = omega (arith, c.loop-k-test.true, c.loop-k.invariant.one_each) in
+    record {
+      ready = c.loss_at.ensures.ready;
+      ranks = subst (AreRanks n c.loss_at.new.rerouting.flows.items) c.deref.ensures.value c.loss_at.ensures.ranks;
+      one_each = length-set old k loss ∙ c.loop-k.invariant.one_each;
+      losses = λ i h. ⊎_elim
+          (λ (here : i ≡ k).
+          let read : get_or (set old k loss) i 0 ≡ loss = ap (λ m. get_or (set old k loss) m 0) here ∙ get_or-set_same old k loss 0 inside in
+          subst (IsLossAt n (get_or nodes i 0)) (sym read) (subst (λ m. IsLossAt n (get_or nodes m 0) loss) (sym here) c.in_ok-losses-2.ensures.loss))
+          (λ (before : i ≢ k).
+          subst (IsLossAt n (get_or nodes i 0)) (sym (get_or-set_other old k i loss 0 before)) (c.loop-k.invariant.losses i (omega (arith, h, before))))
+          (cases_eq i k);
+    }
+
+pub loss_at-requires-clause-node : goal.loss_at-requires-clause-node
+loss_at-requires-clause-node c =
+    let count = c.args.state.now.network.nodes in
+    let nodes = c.args.nodes.now in
+    IsNode-is_node count (get_or nodes c.loop-k.k 0) (All-get_or (λ v. is_node count v ≡ true) nodes c.loop-k.k 0 (omega (arith, c.loop-k-test.true)) c.requires.there)
+
+pub returns-clause-losses : goal.returns-clause-losses
+returns-clause-losses c = λ k h. c.loop-k.invariant.losses k (omega (arith, h, c.loop-k-test.false, c.loop-k.invariant.one_each))
