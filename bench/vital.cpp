@@ -49,24 +49,13 @@ void write_values(const Values &values) {
     for (const uint64_t value : values) output.line("s", value);
 }
 
-// The losses of all arcs of the list are asked for: it is as long as there are marks.
 void write_cases(const dmf_session *session, int repeat, int count, char **words) {
-    std::vector<uint8_t> among(dmf_session_arcs(session));
     Numbers arcs;
-    for (int at = 0; at < count; ++at) {
-        arcs.push_back(static_cast<uint32_t>(std::atol(words[at])));
-        among.at(arcs.back() - 1) = 1;
-    }
-    Numbers listed(arcs.size());
-    Values losses(arcs.size()), left(among.size() + 1);
-    size_t found = 0;
-    measure(repeat, [&] {
-        return dmf_session_worst_arcs(session, among.data(), among.size(), listed.data(), listed.size(), losses.data(), losses.size(),
-                                      &found);
-    });
-    for (size_t at = 0; at < found; ++at) left[listed[at]] = dmf_session_value(session) - losses[at];
+    for (int at = 0; at < count; ++at) arcs.push_back(static_cast<uint32_t>(std::atol(words[at])));
+    Values losses(arcs.size());
+    measure(repeat, [&] { return dmf_session_arc_losses(session, arcs.data(), arcs.size(), losses.data(), losses.size()); });
     dimacs::Output output;
-    for (const uint32_t arc : arcs) output.line("s", left[arc]);
+    for (const uint64_t loss : losses) output.line("s", dmf_session_value(session) - loss);
 }
 
 void write_worst(const dmf_session *session, int repeat, size_t count) {
@@ -95,8 +84,8 @@ void write_parts(const dmf_session *session, int repeat, const std::string &what
     Numbers numbers(count);
     for (size_t at = 0; at < count; ++at) numbers[at] = static_cast<uint32_t>(at + 1);
     if (what == "flow") want(dmf_session_flows(session, values.data(), count));
-    else if (what == "arcs") measure(repeat, [&] { return dmf_session_arc_losses(session, values.data(), count); });
-    else if (what == "nodes") measure(repeat, [&] { return dmf_session_node_losses(session, values.data(), count); });
+    else if (what == "arcs") measure(repeat, [&] { return dmf_session_arc_losses(session, numbers.data(), count, values.data(), count); });
+    else if (what == "nodes") measure(repeat, [&] { return dmf_session_node_losses(session, numbers.data(), count, values.data(), count); });
     else if (what == "second")
         measure(repeat, [&] { return dmf_session_second_gains(session, numbers.data(), count, values.data(), count); });
     else dimacs::fail("nothing is called that");

@@ -238,9 +238,10 @@ class LibrarySession(Session):
         return self._do(self._values_without, part, most_at_once=MOST_LOST_AT_ONCE)
 
     def _values_without(self, held: Handle, part: Part) -> ValuesWithout | None:
-        count = self._library.arcs if part is Part.ARC else self._library.nodes
-        losses = array(AMOUNTS, [0]) * count(held.address)
-        status = self._library.losses[part](held.address, _place(losses), len(losses))
+        many = (self._library.arcs if part is Part.ARC else self._library.nodes)(held.address)
+        numbers, losses = array(NODES, range(1, many + 1)), array(AMOUNTS, [0]) * many
+        columns = _place(numbers), many, _place(losses), many
+        status = self._library.losses[part](held.address, *columns)
         if status == NOT_GREATEST:
             return None
         if status != OK:

@@ -41,7 +41,7 @@ class LibraryCalls:
         found = [POINTER, POINTER, *[POINTER, SIZE] * 2]
         self.maximum_flow = self._call("dmf_session_maximum_flow", found)
         self.losses = {
-            part: self._call(f"dmf_session_{part.value}_losses", [POINTER, POINTER, SIZE])
+            part: self._call(f"dmf_session_{part.value}_losses", [POINTER, *[POINTER, SIZE] * 2])
             for part in Part
         }
         self.worst = {
