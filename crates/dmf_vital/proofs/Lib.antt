@@ -21,6 +21,7 @@ pub mod Stuck
 pub mod Lost
 pub mod NewArc
 pub mod Extending
+pub mod Gained
 pub mod Second
 pub mod Ranking
 pub mod Entered

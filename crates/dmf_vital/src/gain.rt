@@ -13,6 +13,7 @@ ghost use Rattle.dmf_vital.specs.Loss.{IsGainOfArc, IsGainOfSecond, TakesFourOfE
 ghost use Rattle.dmf_vital.specs.Ranks.{AreRanks};
 ghost use Rattle.dmf_vital.specs.Shifted.{IsReady};
 
+use crate::order::{index_of, list_order};
 use crate::rerouting::{Rerouting, find_ranks, loss_of_arc, make_rerouting};
 use crate::rest::solve;
 use dmf_solver::smallest_side;
@@ -111,9 +112,20 @@ fn find_gains(
 {
     let mut rerouting = make_rerouting(alloc, more)?;
     let ranks = find_ranks(alloc, more, &rerouting)?;
+    let order = list_order(alloc, more, &rerouting, firsts, arcs)?;
     let mut gains = vec![in alloc; 0u64; arcs.len()]?;
+    let mut found = vec![in alloc; false; arcs.len()]?;
+    for i in 0..order.len() {
+        let k = index_of(order[i]);
+        if k < arcs.len() {
+            gains[k] = gain_of(more, &ranks, &mut rerouting, firsts[k], arcs[k].cap)?;
+            found[k] = true;
+        }
+    }
     for k in 0..arcs.len() {
-        gains[k] = gain_of(more, &ranks, &mut rerouting, firsts[k], arcs[k].cap)?;
+        if !found[k] {
+            gains[k] = gain_of(more, &ranks, &mut rerouting, firsts[k], arcs[k].cap)?;
+        }
     }
     Ok(gains)
 }

@@ -21,6 +21,7 @@ mod guess;
 mod hop;
 mod laws;
 mod loss;
+mod order;
 mod pairs;
 mod parts;
 mod push;

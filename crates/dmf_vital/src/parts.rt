@@ -154,7 +154,7 @@ fn look_over(
 }
 
 /// Whether a step over the arc has room, if so much flows on it.
-fn is_open(against: bool, arc: Arc, flow: u64) -> bool {
+pub fn is_open(against: bool, arc: Arc, flow: u64) -> bool {
     if against { flow > 0 } else { flow < arc.cap }
 }
 
