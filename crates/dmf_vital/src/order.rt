@@ -21,9 +21,12 @@ struct Visits {
     visited: u32,
 }
 
+/// The order is worth its searches if there is such a new arc for every so many nodes.
+const NODES_AN_ARC: usize = 8;
+
 /// Lists those of the new arcs that have arcs of their own, by their indices, so that an end of each is often next to that of the one
 /// before, where there is room on the arc that was emptied for it. They are in the order in which a depth-first search from the sink finds
-/// their heads from behind, or one from the source their tails if they enter the sink.
+/// their heads from behind, or one from the source their tails if they enter the sink. Lists none if there are few.
 pub fn list_order(
     alloc: Global,
     more: &State,
@@ -31,6 +34,9 @@ pub fn list_order(
     firsts: &[u32],
     arcs: &[Arc],
 ) -> Result<Vec<u64>, AllocError> {
+    if count_own(firsts) < more.nodes() as usize / NODES_AN_ARC {
+        return Ok(Vec::new(alloc));
+    }
     let of_heads = places_from(alloc, more, rerouting, more.sink(), true)?;
     let of_tails = places_from(alloc, more, rerouting, more.source(), false)?;
     let mut order = Vec::new(alloc);
@@ -46,6 +52,17 @@ pub fn list_order(
     }
     order.sort_unstable();
     Ok(order)
+}
+
+/// How many new arcs have arcs of their own.
+fn count_own(firsts: &[u32]) -> usize {
+    let mut count = 0usize;
+    for k in 0..firsts.len() {
+        if firsts[k] != 0 {
+            count = count.saturating_add(1);
+        }
+    }
+    count
 }
 
 /// An index with a place before it, so that numbers of this form are in the order of the places.
