@@ -4,6 +4,7 @@ names that have no room are there for screen readers, in headless Chromium."""
 from __future__ import annotations
 
 import re
+from functools import partial
 from pathlib import Path
 from typing import Any
 
@@ -197,10 +198,11 @@ def test_many_ends(driver: Any) -> None:
         depot = next(at for at in it.told("find?text=East+Depot")["found"])
         it.do(what="shut", node=depot["node"])
         page.wait(lambda: page.value() == 126)
-        found = {}
+        found: dict[int, str] = {}
         for width in (*WIDTHS, 1280):
             set_width(driver, width)
-            page.wait(lambda now=width: page.driver.execute_script("return innerWidth") == now)
+            is_so = f"return innerWidth === {width}"
+            page.wait(partial(driver.execute_script, is_so))
             judge_head(page, width)
             value, short, limit = judge_whole(page)
             match = re.fullmatch(

@@ -5,6 +5,7 @@ hand."""
 from __future__ import annotations
 
 from pathlib import Path
+from typing import Any
 
 import pytest
 from client_shared import BUILT
@@ -19,7 +20,7 @@ from test_board_worth import waited
 from test_plan_worst_pairs import drawn_desk
 
 
-def doubled(desk: Desk, number: int) -> object:
+def doubled(desk: Desk, number: int) -> Any:
     """The greatest value with a second one beside this pipe, which is put there."""
     with desk.aside() as other:
         other.double(number)

@@ -115,7 +115,7 @@ def test_beside_networkx(seed: int) -> None:
         assert [(result.case[0][1], result.value * scale) for result in shut] == [*zip(inner, left)]
         assert [result.difference * scale for result in shut] == [it - value for it in left]
         by = random.choice([0, 1, 4, 2**40])
-        added = Decimal(by) / scale
+        added: Any = Decimal(by) / scale
         won = [greatest([*opened, (0, *arc[1:3], by)]) for arc in opened]
         raised: list[Any] = list(dmf.sweep(network, dmf.each_capacity_raised(added)))
         assert [result.value * scale for result in raised] == won
@@ -145,6 +145,8 @@ def test_beside_cases_that_are_tried(seed: int, monkeypatch: pytest.MonkeyPatch)
         network.solve()
     keys: list[Any] = [f"k{at}" for at in range(len(rows))]
     pairs: list[Any] = [(tail, head) for tail in NODES for head in NODES]
+    wrong: list[Any] = [(0, "nothing"), ([], 1), (0, 1, 2)]
+    unordered: list[Any] = [{1, 2}]
     asked: list[Any] = [
         *map(dmf.each_arc_closed, (None, keys, [*keys, "nothing", (0, 1)])),
         *map(dmf.each_node_shut, (None, range(1, COUNT), [*NODES, "nothing"], [1, 1])),
@@ -155,8 +157,8 @@ def test_beside_cases_that_are_tried(seed: int, monkeypatch: pytest.MonkeyPatch)
         dmf.each_capacity_raised(1, keys),
         dmf.each_capacity_raised(1, [*keys[1:], "nothing", keys[-1]]),
         dmf.each_pair_added(pairs, random.randrange(9)),
-        dmf.each_pair_added([*pairs, (0, "nothing"), ([], 1), (0, 1, 2), *pairs], 5),
-        dmf.each_pair_added([*pairs, {1, 2}, *pairs], 5),
+        dmf.each_pair_added([*pairs, *wrong, *pairs], 5),
+        dmf.each_pair_added([*pairs, *unordered, *pairs], 5),
         dmf.each_pair_added(pairs, -1),
         dmf.each_pair_added(pairs, 2**64),
         dmf.each_pair_added(iter(pairs), 2),
@@ -213,7 +215,8 @@ def test_a_table(tmp_path: Path) -> None:
     with dmf.read_table(
         tmp_path / "pipes.csv", source=["a", "b"], sink="e", limits={"d": 3}
     ) as network:
-        by, count = Decimal("0.75"), len(network.arcs)
+        by: Any = Decimal("0.75")
+        count = len(network.arcs)
         assert network.solve().value == 3
         wanted = [solved_with(network, number, by) for number in range(count)]
         assert [it.value for it in dmf.sweep(network, dmf.each_capacity_raised(by))] == wanted
@@ -229,11 +232,12 @@ def test_little_room() -> None:
     rows = [("a", "b", 2**62, "first"), ("b", "c", 2**61, "second")]
     with dmf.Network(rows, "a", "c") as network:
         network.solve()
-        for by, expected in (
+        cases: list[tuple[int, list[int | None]]] = [
             (2**60, [2**61, 2**61 + 2**60]),
             (2**63, [2**61, 2**62]),
             (2**63 + 2**61 + 1, [None, None]),
-        ):
+        ]
+        for by, expected in cases:
             found = list(dmf.sweep(network, dmf.each_capacity_raised(by)))
             assert [it.value for it in found] == expected
             refused = [type(it.refusal) for it in found if it.value is None]

@@ -27,7 +27,7 @@ from .worth import judge_greatest
 MOST_SECONDS = 5
 
 
-class SecondArcs(NamedTuple):
+class AskedSeconds(NamedTuple):
     """Second arcs beside some pipes of the limit. `arcs` are the new arcs that they come down to,
     and `pipes` has the pipe of each. Where a place has a limit of its own and gives or takes any
     amount, its limits follow; `cases` has the commands for these pipes. What does not fit into 64
@@ -46,7 +46,7 @@ class SecondGain(NamedTuple):
     gain: Quantity
 
 
-def second_arcs(network: LiveNetwork, numbers: Collection[int]) -> SecondArcs:
+def second_arcs(network: LiveNetwork, numbers: Collection[int]) -> AskedSeconds:
     """Return the second arcs beside these open pipes."""
     joined, fits, whole = _joined(network), _fitting(network, numbers), network.measure.whole
     pipes: list[int] = []
@@ -69,7 +69,7 @@ def second_arcs(network: LiveNetwork, numbers: Collection[int]) -> SecondArcs:
             pipes += [number] * len(ends)
             arcs += ends
     kinds = zip((NODES, NODES, AMOUNTS), zip(*arcs) if arcs else ((), (), ()))
-    return SecondArcs(pipes, ArcColumns(*(array(kind, column) for kind, column in kinds)), cases)
+    return AskedSeconds(pipes, ArcColumns(*(array(kind, column) for kind, column in kinds)), cases)
 
 
 def _joined(network: NetworkArcs) -> dict[tuple[str, int], int]:
@@ -113,7 +113,7 @@ def _fitting(network: LiveNetwork, numbers: Iterable[int]) -> set[int]:
     return {number for number in numbers if size(number) <= room}
 
 
-def gains_by_pipe(seconds: SecondArcs, gains: Iterable[int]) -> dict[int, int]:
+def gains_by_pipe(seconds: AskedSeconds, gains: Iterable[int]) -> dict[int, int]:
     """Return the gain by each pipe, from those of its new arcs.
 
     The greatest value is a concave function of what flows forward on the two arcs of a pipe, less

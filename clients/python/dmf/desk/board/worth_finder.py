@@ -23,7 +23,7 @@ from ...session.base import (
 from ...session.fresh import values_without, worst_without
 from ...session.runners import chosen, program_of
 from ..answers import LARGE, Answers
-from ..seconds import SecondArcs, gains_by_pipe, second_arcs
+from ..seconds import AskedSeconds, gains_by_pipe, second_arcs
 from ..workspace import Desk
 from ..worth import MOST_PAIRED, MOST_PAIRS, pairs_of_pipes, pipes_by_arc
 
@@ -46,7 +46,7 @@ class WorthRun:
         answers: Answers,
         problem: ProblemColumns,
         program: Program,
-        seconds: SecondArcs,
+        seconds: AskedSeconds,
         pipes: Mapping[int, int] | None,
     ) -> None:
         """Begin the search. `seconds` are the second arcs beside the pipes of the limit. `pipes`

@@ -41,7 +41,9 @@ function markOld(isOld) {
   for (const part of ["best", "worst"]) at(part).classList.toggle("old", isOld);
   if (!isOld) return;
   at("worst").setAttribute("aria-busy", "true");
-  for (const note of ["best-note", "worst-note"]) at(note).textContent = "These are from before the change. The new ones are being found ..";
+  for (const part of ["best", "worst"]) {
+    at(`${part}-note`).textContent = "These are from before the change. The new ones are being found ..";
+  }
   at("worst-places-note").textContent = "";
   at("worst-pairs-note").textContent = "";
 }
