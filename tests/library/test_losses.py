@@ -85,8 +85,8 @@ def test_the_largest_capacity(library: Library) -> None:
 
 
 def test_the_largest_sum_at_a_node(library: Library) -> None:
-    """All arcs are at node 3, and those that enter it carry as much as those that leave it: 2^64 - 2
-    together, and with a loop at both of its ends 2^64. Then another way leads past node 3."""
+    """All arcs are at node 3. Those that enter it carry as much as those that leave it, together
+    2^64 - 2, and with a loop at both of its ends 2^64. Then another way leads past node 3."""
     half = 2**63 - 1
     entering, leaving = [half // 3, half // 2, half - half // 3 - half // 2], [half - 7, 7]
     arcs = [(1, 3, cap) for cap in entering] + [(3, 2, cap) for cap in leaving] + [(3, 3, 1)]
