@@ -1,10 +1,10 @@
 -- An extended network, and the arcs that are added to it.
-use Rattle.std.proofs.Common.{ℕ, ◌<◌, get_or, ◌≡◌, ◌+◌, ◌-◌, ◌&&◌, nat_lt, Bool, true, false, not, cond, List, [], ◌∷◌, ◌++◌, length, refl, ap, sym, ◌∙◌, subst, arith, pos}
+use Rattle.std.proofs.Common.{ℕ, ◌≡◌, ◌+◌, ◌-◌, ◌&&◌, nat_lt, Bool, true, false, not, cond, List, [], ◌∷◌, ◌++◌, length, refl, ap, sym, ◌∙◌, subst, arith, pos}
 use Rattle.std.proofs.lemmas.Int.{ints}
 use Rattle.std.proofs.Math.Bool.{and-true}
 use Rattle.std.proofs.lemmas.Bool.Decides.{nat_tests}
 use Rattle.std.proofs.lemmas.List.{get_or_append_left, get_or_push, length_push}
-use Rattle.std.proofs.lemmas.List.Sums.{sum_by_more, sum_by_push}
+use Rattle.std.proofs.lemmas.List.Sums.{sum_by_push}
 use Rattle.dmf_state.specs.declared.arc.Arc.{Arc}
 use Rattle.dmf_state.specs.Arc.{IsArc, no_arc, open_arc}
 use Rattle.dmf_state.specs.Cut.{IsMinimumCut, cut_capacity}
@@ -65,20 +65,6 @@ keeps-detour m v cap =
     keeps-then m one (with_detour m v cap) (keeps-last m (open_arc m.source v cap)) (keeps-last one (open_arc v m.sink cap))
 
 -- ---- four more arcs, for a new arc
-
--- The next of its arcs brings to each cut what it brings there.
-pub extended-own : (n m : Network) (k : ℕ) (arc : Arc) → k < length n.arcs → arc ≡ get_or n.arcs k no_arc → IsExtended n m k
-    → IsExtended n (with_last_arc m (open_arc arc.tail arc.head arc.cap)) (k + 1)
-extended-own n m k arc within is extended = record {
-  nodes = extended.nodes;
-  source = extended.source;
-  sink = extended.sink;
-  total = extended.total;
-  cuts = λ has inside outside.
-      let new = sum_by_push (part has) m.arcs (open_arc arc.tail arc.head arc.cap) in
-      let own : part has (open_arc arc.tail arc.head arc.cap) ≡ part has (get_or n.arcs k no_arc) = ap (part has) is in
-      omega (arith, new, own, sum_by_more (part has) n.arcs k no_arc within, extended.cuts has inside outside);
-}
 
 pub keeps-detours : (m : Network) (arc : Arc) → KeepsArcs m (with_detours m arc)
 keeps-detours m arc =
