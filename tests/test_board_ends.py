@@ -22,7 +22,7 @@ from board_running import Board, board
 from built import BUILT
 from desk_shared import PIPES, SECONDS, run, stop_session, wait_until_asked
 from dmf import Network
-from dmf.desk import analysis as desk_sweep
+from dmf.desk import seconds as desk_seconds
 from dmf.desk.board.responses import Response
 from dmf.desk.board.routes import Board as InBoard
 from dmf.desk.workspace import Desk
@@ -169,7 +169,7 @@ def test_unforeseen(monkeypatch: pytest.MonkeyPatch, error: Exception) -> None:
         (Network, "shut", "do", {"what": "shut", "node": 5})
     ]
     asked += [
-        (desk_sweep, "sweep", "seconds", {"arcs": [1, 2, 3]}),
+        (desk_seconds, "sweep", "seconds", {"arcs": [1, 2, 3]}),
         (Network, "solve", "do", {"what": "close", "arc": 3}),
     ]
     for at, name, path, content in asked:

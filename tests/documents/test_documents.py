@@ -31,6 +31,7 @@ WORD = re.compile(r"[^\s(){}\[\],;.`\"]+")
 MOST_WORDS = 1_800
 MORE_WORDS = {
     "CONTRIBUTING.md": 1_900,
+    "bench/README.md": 1_900,
     "docs/DEFINITIONS.md": 4_200,
     "docs/PROVED.md": 2_000,
     "docs/SEARCH.md": 2_750,

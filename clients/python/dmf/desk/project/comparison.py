@@ -6,7 +6,7 @@ from __future__ import annotations
 from collections import Counter
 from collections.abc import Iterator
 from dataclasses import dataclass
-from typing import NamedTuple, Union
+from typing import Any, NamedTuple, Union
 
 from ...quantity import Measure, Quantity, magnitude, moved, plain_text
 from ...text.lexical import display
@@ -88,7 +88,7 @@ class ArcDifference:
 @dataclass(frozen=True)
 class Comparison:
     """Two scenarios beside each other, and the arcs that differ, in the order of the table. Numbers
-    are the table's. `alike` are the arcs that do not differ."""
+    are the table's. `alike` are the arcs that do not differ, and `noun` is the word for an arc."""
 
     first: Standing
     second: Standing
@@ -96,6 +96,10 @@ class Comparison:
     measure: Measure
     alike: tuple[Known, ...] = ()
     noun: str = "arc"
+
+    def __setstate__(self, state: dict[str, Any]) -> None:
+        """Take what was pickled, also by an earlier version, which had no noun."""
+        self.__dict__.update({"noun": "arc", **state})
 
     def lines(self) -> Iterator[str]:
         """Yield the comparison in words, with a line for each thing that differs."""
