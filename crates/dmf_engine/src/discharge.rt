@@ -14,43 +14,30 @@ struct Discharge {
     label: u32,
     /// Its current arc.
     current: u32,
-    /// The place of its first link.
-    start: u32,
-    /// The place after its last link.
-    end: u32,
 }
 
-/// The least label to which a link of a node leads, and the first such link.
+/// The least label to which the inadmissible links of a node lead, and the place of one of those links.
 #[derive(Clone, Copy)]
 struct Least {
     label: u32,
     place: u32,
+    /// 1 if the last of several such links is taken, and 0 if the first is.
+    tie: u32,
 }
 
 impl Engine {
-    /// Pushes the excess of a node to nodes with a label less by one, and relabels it whenever there is none, until no excess is left or
-    /// the node is cut off from the goal.
+    /// Pushes the excess of a node to nodes with a label less by one, and relabels it after each round of its links, until no excess is left
+    /// or the node is cut off from the goal.
     pub fn discharge(&mut self, node: u32) {
         let mut at = Discharge {
             node,
             excess: self.excess_at(node),
             label: self.label(node),
             current: read(&self.currents, node, 0),
-            start: self.links.start(node),
-            end: self.links.end(node),
         };
         for _ in 0..self.budget {
-            if self.budget == 0 {
-                break;
-            }
-            let place = self.admissible(&at);
-            self.spend(place.wrapping_sub(at.current).wrapping_add(1));
-            at.current = place;
-            if place >= at.end {
-                if !self.relabel(&mut at) {
-                    break;
-                }
-            } else if self.push_over(&mut at) {
+            let least = self.go_round(&mut at);
+            if at.excess == 0 || self.budget == 0 || !self.relabel(&mut at, least) {
                 break;
             }
         }
@@ -58,25 +45,64 @@ impl Engine {
         write(&mut self.excess, node, at.excess);
     }
 
-    /// The first place from the current arc on whose link is admissible, or the end.
+    /// Pushes over the admissible links from the current arc once round, until no excess is left. After a whole round, the answer is exact:
+    /// labels of other nodes do not change meanwhile.
+    fn go_round(&mut self, at: &mut Discharge) -> Least {
+        let turn = at.current;
+        let mut least = Least {
+            label: self.nodes,
+            place: turn,
+            tie: self.flip(),
+        };
+        let end = self.links.end(at.node);
+        self.go_along(at, end, &mut least);
+        if at.excess != 0 {
+            at.current = self.links.start(at.node);
+            self.go_along(at, turn, &mut least);
+        }
+        least
+    }
+
+    /// Pushes over the admissible links from the current arc up to a place, until no excess is left.
     #[inline(always)]
-    fn admissible(&self, at: &Discharge) -> u32 {
-        let links = within(&self.links.all, at.current, at.end);
+    fn go_along(&mut self, at: &mut Discharge, end: u32, least: &mut Least) {
+        let start = at.current;
+        for _ in start..end {
+            at.current = self.admissible(at, end, least);
+            if at.current >= end || self.push_over(at) {
+                break;
+            }
+            at.current = at.current.wrapping_add(1);
+        }
+        self.spend(at.current.wrapping_sub(start).wrapping_add(1));
+    }
+
+    /// The first place from the current arc on whose link is admissible, or the end. Of the links before it, notes the least label to which
+    /// they lead.
+    #[inline(always)]
+    fn admissible(&self, at: &Discharge, end: u32, least: &mut Least) -> u32 {
         let labels = &self.labels[..];
         if labels.is_empty() {
-            return at.end;
+            return end;
         }
         let mask = mask_of(labels);
         let wanted = at.label.wrapping_sub(1);
         let direction = self.direction;
         let mut place = at.current;
-        for link in links {
-            if direction.can_leave(link.word) && masked(labels, link.word, mask) == wanted {
-                return place;
+        for link in within(&self.links.all, at.current, end) {
+            if direction.can_leave(link.word) {
+                let label = masked(labels, link.word, mask);
+                if label == wanted {
+                    return place;
+                }
+                if label < least.label.wrapping_add(least.tie) {
+                    least.label = label;
+                    least.place = place;
+                }
             }
             place = place.wrapping_add(1);
         }
-        at.end
+        end
     }
 
     /// Pushes over the current arc. Whether no excess is left.
@@ -89,80 +115,38 @@ impl Engine {
         at.excess == 0
     }
 
-    /// Gives the node the label that is one more than the least label to which a link leads. `false` if it is cut off from the goal.
-    fn relabel(&mut self, at: &mut Discharge) -> bool {
-        let degree = at.end.wrapping_sub(at.start);
-        self.spend(degree);
-        let middle = self.some_place(at.start, degree);
-        let before = self.least(at.start, middle);
-        let after = self.least(middle, at.end);
-        let least = before.label.min(after.label);
-        let label = least.wrapping_add(1);
-        if label == at.label {
-            at.current = if before.label == least {
-                before.place
-            } else {
-                after.place
-            };
-            return true;
-        }
+    /// Gives the node the label that is one more than the least to which a link leads. `false` if it is cut off from the goal.
+    fn relabel(&mut self, at: &mut Discharge, least: Least) -> bool {
+        let degree = self
+            .links
+            .end(at.node)
+            .wrapping_sub(self.links.start(at.node));
         self.since = self.since.wrapping_add(u64::from(degree)).wrapping_add(12);
         self.buckets.leave(at.node, at.label);
-        if self.buckets.first(at.label) == 0 {
+        let label = least.label.wrapping_add(1);
+        let is_gap = self.buckets.first(at.label) == 0;
+        if is_gap {
             self.cut_off_above(at.label);
-            write(&mut self.labels, at.node, self.nodes);
-            return false;
         }
-        if label >= self.nodes {
+        if is_gap || label >= self.nodes {
             write(&mut self.labels, at.node, self.nodes);
             return false;
         }
         write(&mut self.labels, at.node, label);
         self.buckets.enter(at.node, label);
         at.label = label;
-        at.current = if after.label == least {
-            after.place
-        } else {
-            before.place
-        };
+        at.current = least.place;
         true
     }
 
-    /// The least label to which links at these places lead over which excess can leave, and the first of them.
-    #[inline(always)]
-    fn least(&self, start: u32, end: u32) -> Least {
-        let labels = &self.labels[..];
-        let direction = self.direction;
-        let mut least = Least {
-            label: self.nodes,
-            place: end,
-        };
-        if labels.is_empty() {
-            return least;
-        }
-        let mask = mask_of(labels);
-        let mut place = start;
-        for link in within(&self.links.all, start, end) {
-            if direction.can_leave(link.word) {
-                let label = masked(labels, link.word, mask);
-                if label < least.label {
-                    least = Least { label, place };
-                }
-            }
-            place = place.wrapping_add(1);
-        }
-        least
-    }
-
-    /// A place among so many from `start` on, by chance.
-    fn some_place(&mut self, start: u32, degree: u32) -> u32 {
+    /// 0 or 1, by chance.
+    fn flip(&mut self) -> u32 {
         let mut chance = self.chance;
         chance ^= chance << 13;
         chance ^= chance >> 17;
         chance ^= chance << 5;
         self.chance = chance;
-        let part = u64::from(chance).wrapping_mul(u64::from(degree)) >> 32;
-        start.wrapping_add(part as u32)
+        chance >> 31
     }
 
     /// Cuts all nodes off that have a label above a gap: no path from them to the goal is left.

@@ -1,8 +1,9 @@
-//! Which end to begin at.
+//! The cuts between the levels of a breadth-first search.
 use crate::direction::PushDirection;
-use crate::engine::Engine;
-use crate::links::head_of;
-use crate::list::{fill, write};
+use crate::links::{PackedLinks, head_of};
+use crate::list::{Row, fill, read, write};
+use dmf_state::NoMemory;
+use std::alloc::Global;
 
 /// The least cuts between two levels of a breadth-first search from an end.
 #[derive(Clone, Copy)]
@@ -14,6 +15,20 @@ pub struct LevelCuts {
 }
 
 impl LevelCuts {
+    /// The least of all: no more flow than this is left.
+    pub fn least(self) -> u64 {
+        self.near_source.min(self.near_sink)
+    }
+
+    /// From the end with the lesser cut near it, since then less excess has to be given back; from the sink if they are equal.
+    pub fn direction(self, source: u32, sink: u32) -> PushDirection {
+        if self.near_sink <= self.near_source {
+            PushDirection::backward(source, sink)
+        } else {
+            PushDirection::forward(source, sink)
+        }
+    }
+
     /// Counts a cut in.
     fn count(&mut self, is_near_source: bool, capacity: u64) {
         if is_near_source {
@@ -24,26 +39,45 @@ impl LevelCuts {
     }
 }
 
-impl Engine {
-    /// Begins at the end with the lesser cut near it, since then less excess has to be given back. At the sink where they are equal.
-    pub fn choose_end(&mut self, source: u32, sink: u32) {
-        let mut cuts = LevelCuts {
-            near_source: u64::MAX,
-            near_sink: u64::MAX,
-        };
-        let forward = PushDirection::forward(source, sink);
-        let backward = PushDirection::backward(source, sink);
-        self.find_cuts(forward, &mut cuts);
-        self.find_cuts(backward, &mut cuts);
-        self.direction = if cuts.near_sink <= cuts.near_source {
-            backward
-        } else {
-            forward
-        };
-    }
+/// A breadth-first search.
+#[derive(Drop)]
+struct Levels {
+    nodes: u32,
+    /// The level of each node from 1 on, or 0.
+    labels: Vec<u32>,
+    /// The nodes that were reached.
+    queue: Row,
+}
 
+/// Finds the cuts between the levels from either end, in what is left of the links. Takes memory for two numbers a node.
+pub fn find_level_cuts(
+    alloc: Global,
+    links: &PackedLinks,
+    nodes: u32,
+    forward: PushDirection,
+) -> Result<LevelCuts, NoMemory> {
+    let size = nodes as usize + 2;
+    let mut levels = Levels {
+        nodes,
+        labels: vec![in alloc; 0u32; size]?,
+        queue: Row::new(alloc, size)?,
+    };
+    let mut cuts = LevelCuts {
+        near_source: u64::MAX,
+        near_sink: u64::MAX,
+    };
+    levels.find_cuts(links, forward, &mut cuts);
+    levels.find_cuts(
+        links,
+        PushDirection::backward(forward.base, forward.goal),
+        &mut cuts,
+    );
+    Ok(cuts)
+}
+
+impl Levels {
     /// Counts the cuts between the levels from the base on, up to the level of the goal.
-    fn find_cuts(&mut self, direction: PushDirection, cuts: &mut LevelCuts) {
+    fn find_cuts(&mut self, links: &PackedLinks, direction: PushDirection, cuts: &mut LevelCuts) {
         fill(&mut self.labels, 0);
         self.queue.truncate(0);
         self.queue.push(direction.base);
@@ -55,23 +89,33 @@ impl Engine {
             if self.label(node) != level {
                 let is_near_base = index <= self.nodes / 2;
                 cuts.count(is_near_base != direction.is_reversed, capacity);
-                let goal = self.label(direction.goal);
-                if node == 0 || goal != 0 && goal <= level {
-                    return;
-                }
                 capacity = 0;
                 level = self.label(node);
+                if node == 0 || level == self.label(direction.goal) {
+                    return;
+                }
             }
-            capacity = capacity.wrapping_add(self.reach(direction, node, level));
+            capacity = capacity.wrapping_add(self.reach(links, direction, node, level));
         }
     }
 
+    #[inline(always)]
+    fn label(&self, node: u32) -> u32 {
+        read(&self.labels, node, 0)
+    }
+
     /// Labels the next level's nodes to which excess can leave a node, and answers how much can.
-    fn reach(&mut self, direction: PushDirection, node: u32, level: u32) -> u64 {
+    fn reach(
+        &mut self,
+        links: &PackedLinks,
+        direction: PushDirection,
+        node: u32,
+        level: u32,
+    ) -> u64 {
         let next = level.wrapping_add(1);
         let mut capacity = 0u64;
-        for place in self.links.start(node)..self.links.end(node) {
-            let word = self.links.at(place).word;
+        for place in links.start(node)..links.end(node) {
+            let word = links.at(place).word;
             if direction.can_leave(word) {
                 let head = head_of(word);
                 if self.label(head) == 0 {
@@ -79,7 +123,7 @@ impl Engine {
                     self.queue.push(head);
                 }
                 if self.label(head) == next {
-                    capacity = capacity.wrapping_add(self.links.room(direction, place));
+                    capacity = capacity.wrapping_add(links.room(direction, place));
                 }
             }
         }

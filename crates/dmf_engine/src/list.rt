@@ -116,3 +116,50 @@ impl Row {
         self.count = count;
     }
 }
+
+/// A queue of nodes in which each node is at most once. It takes no memory after it is made.
+#[derive(Drop)]
+pub struct Ring {
+    items: Vec<u32>,
+    start: u32,
+    end: u32,
+}
+
+impl Ring {
+    /// An empty queue with room for all but one of so many nodes.
+    pub fn new(alloc: Global, size: usize) -> Result<Ring, NoMemory> {
+        Ok(Ring {
+            items: vec![in alloc; 0u32; size]?,
+            start: 0,
+            end: 0,
+        })
+    }
+
+    /// Appends a node.
+    #[inline(always)]
+    pub fn push(&mut self, node: u32) {
+        write(&mut self.items, self.end, node);
+        self.end = self.after(self.end);
+    }
+
+    /// Takes the first node, or answers 0 if there is none.
+    #[inline(always)]
+    pub fn take(&mut self) -> u32 {
+        if self.start == self.end {
+            return 0;
+        }
+        let node = read(&self.items, self.start, 0);
+        self.start = self.after(self.start);
+        node
+    }
+
+    #[inline(always)]
+    fn after(&self, index: u32) -> u32 {
+        let next = index.wrapping_add(1);
+        if (next as usize) < self.items.len() {
+            next
+        } else {
+            0
+        }
+    }
+}
