@@ -1,3 +1,6 @@
+ghost use Rattle.std.specs.Prelude.{◌≡◌};
+ghost use Rattle.dmf_state.specs.Edit.{moves_of};
+
 /// A change of the flow on one arc.
 #[derive(Clone, Copy, Debug, PartialEq, Eq, Hash)]
 pub struct Move {
@@ -19,7 +22,7 @@ pub struct Shutting {
 }
 
 /// A change planned on a state, with all that it takes to apply it there and to revert it.
-#[derive(Debug, PartialEq, Eq, Drop)]
+#[derive(Clone, Debug, PartialEq, Eq, Drop)]
 pub enum Edit {
     /// Gives an arc another capacity.
     Cap {
@@ -62,4 +65,19 @@ pub enum Edit {
         /// The arcs whose flow differs, in the order of their numbers.
         moves: Vec<Move>,
     },
+}
+
+impl Edit {
+    /// The moves of the edit: none for an added arc.
+    pub fn moves(&self) -> &[Move]
+        ensures { result.now ≡ moves_of self.now }
+    {
+        match *self {
+            Edit::Cap { ref moves, .. } => moves,
+            Edit::Close { ref moves, .. } => moves,
+            Edit::Add { .. } => &[],
+            Edit::Shut { ref moves, .. } => moves,
+            Edit::Solve { ref moves } => moves,
+        }
+    }
 }

@@ -61,16 +61,16 @@ impl<'a, V: Watch> Dialogue<'a, V> {
 }
 
 impl<V: Watch> Watch for Dialogue<'_, V> {
-    ghost told = { λ d. V.told d.watch };
-
-    ghost drained = { λ d. V.drained d.watch };
-
     fn begun(&mut self, state: &State) {
         self.watch.begun(state);
     }
 
     fn augmented(&mut self, value: u64, links: u32) {
         self.watch.augmented(value, links);
+    }
+
+    fn goes_on(&mut self) -> bool {
+        self.watch.goes_on()
     }
 
     fn lowered(&mut self, turn: Turn, amount: u64) {

@@ -8,7 +8,7 @@ use Rattle.dmf_state.specs.Network.{Network, IsNetwork, arc_number, has_arc}
 use Rattle.dmf_state.specs.Arc.{no_arc}
 use Rattle.dmf_state.proofs.ChangedArc.{has_arc-within}
 use Rattle.dmf_vital.specs.declared.exits.Exits.{Exits}
-use Rattle.dmf_vital.specs.Exits.{AreExits, is_exit}
+use Rattle.dmf_vital.specs.Exits.{AreExits, exit_flow, is_exit}
 use Rattle.dmf_vital.specs.Kept.{HoldsNode, HoldsTail}
 use Rattle.dmf_vital.specs.Loss.{IsLossOfArc, IsLossOfNode}
 use Rattle.dmf_vital.specs.Shifted.{IsLeft}
@@ -33,6 +33,13 @@ are-exits_of_arc n ranks j tail network there is apart =
       tail = λ _. sym is;
       head = λ _ same. apart (sym (same ∙ is));
     }
+
+-- The flow on the one exit is that on its arc.
+pub exit_flow-arc : (n : Network) (ranks : Bor (List ℕ)) (j tail : ℕ) (flows : List ℕ) → has_arc n j ≡ true → exit_flow n (exits_of_arc ranks tail j) flows ≡ flow_on flows j
+exit_flow-arc n ranks j tail flows there =
+    let some : j ≢ 0 = let at = has_arc-within n j there in omega (arith, at.0) in
+    let test = ne_eqb j 0 some in
+    rw test refl
 
 pub lost-arc : (n : Network) (ranks : Bor (List ℕ)) (j tail left : ℕ) → IsNetwork n → has_arc n j ≡ true → tail ≡ (arc_number n j).tail
     → IsLeft n (exits_of_arc ranks tail j) left → IsLossOfArc n j left

@@ -16,7 +16,7 @@ ghost use Rattle.dmf_vital.specs.Shifted.{IsReady};
 use crate::order::{index_of, list_order};
 use crate::rerouting::{Rerouting, find_ranks, loss_of_arc, make_rerouting};
 use crate::rest::solve;
-use dmf_solver::smallest_side;
+use dmf_solver::{is_saturated_cut, smallest_side};
 use dmf_state::{Arc, MAX_ARCS, NetFault, NoMemory, Side, State};
 use std::alloc::{AllocError, Global};
 
@@ -130,8 +130,8 @@ fn find_gains(
     Ok(gains)
 }
 
-/// Makes a state of the same nodes with what finds the gains of these new arcs, and after it the state's own arcs and flow. Solves. A
-/// search looks at the arcs of a node from the last one on, so at the state's own first.
+/// Makes a state of the same nodes with what finds the gains of these new arcs, and after it the state's own arcs and flow. A search
+/// looks at the arcs of a node from the last one on, so at the state's own first.
 fn extend(alloc: Global, state: &State, arcs: &[Arc]) -> Result<Extended, NoMemory>
     requires { IsGreatest state.now.network state.now.flows }
     ensures { IfOk result (IsExtendedFor state.now.network arcs.now) }
@@ -145,7 +145,7 @@ fn extend(alloc: Global, state: &State, arcs: &[Arc]) -> Result<Extended, NoMemo
         firsts[k] = place(state, &side, &mut more, arcs[k])?;
     }
     add_own(state, &mut more)?;
-    let state = solved_from(alloc, &more, state.flows())?;
+    let state = solved_from(alloc, &more, &side, state.flows())?;
     Ok(Extended { state, firsts })
 }
 
@@ -162,29 +162,46 @@ fn add_own(state: &State, more: &mut State) -> Result<(), NoMemory>
     Ok(())
 }
 
-/// The state with these flows on its last arcs, solved.
-fn solved_from(alloc: Global, more: &State, flows: &[u64]) -> Result<State, NoMemory>
+/// The state with these flows on its last arcs and every other arc full. The cut of this side is then full, so the flow is greatest; if it
+/// is not full, the state is solved.
+fn solved_from(alloc: Global, more: &State, side: &Side, flows: &[u64]) -> Result<State, NoMemory>
     ensures network { IfOk result (λ solved. solved.network ≡ more.now.network) }
     ensures greatest { IfOk result (λ solved. IsGreatest solved.network solved.flows) }
 {
-    let flows = flows_at_end(alloc, more.arcs().len(), flows)?;
+    let flows = filled(alloc, more, flows)?;
     let Ok(mut solved) = more.with_flows(alloc, flows) else {
         return Err(NoMemory);
     };
-    solve(alloc, &mut solved)?;
+    if !is_saturated_cut(&solved, &marks_of(alloc, side, more.nodes())?) {
+        solve(alloc, &mut solved)?;
+    }
     Ok(solved)
 }
 
-/// So many numbers: these at the end, if they are no more, and 0 before them.
-fn flows_at_end(alloc: Global, count: usize, flows: &[u64]) -> Result<Vec<u64>, NoMemory>
-    ensures { IfOk result (λ all. length all.items ≡ count) }
+/// A flow for each arc: these on the last ones, if they are no more, and on the others as much as fits.
+fn filled(alloc: Global, more: &State, flows: &[u64]) -> Result<Vec<u64>, NoMemory>
+    ensures { IfOk result (λ all. length all.items ≡ length more.now.network.arcs) }
 {
+    let count = more.arcs().len();
     let mut all = vec![in alloc; 0u64; count]?;
     let own = flows.len().min(count);
-    for k in 0..own {
-        all[count - own + k] = flows[k];
+    for k in 0..count {
+        all[k] = if k < count - own {
+            more.arcs()[k].cap
+        } else {
+            flows[k - (count - own)]
+        };
     }
     Ok(all)
+}
+
+/// A mark for each number up to that of the last node: whether that node is on the side.
+fn marks_of(alloc: Global, side: &Side, nodes: u32) -> Result<Vec<bool>, AllocError> {
+    let mut marks = vec![in alloc; false; nodes as usize + 1]?;
+    for k in 0..nodes {
+        marks[k as usize + 1] = side.contains(k + 1);
+    }
+    Ok(marks)
 }
 
 /// As many numbers, all 0.

@@ -36,7 +36,7 @@ pub fn guess_least(
 }
 
 /// Arc number `j` is no longer among these.
-fn leave(among: &mut Vec<bool>, j: u32) {
+pub fn leave(among: &mut Vec<bool>, j: u32) {
     let k = (j as usize).saturating_sub(1);
     if k < among.len() {
         among[k] = false;
@@ -85,7 +85,7 @@ fn note_second(
 }
 
 /// Whether the loss is one of the `most` greatest.
-fn may_note(greatest: &[u64], most: usize, loss: u64) -> bool {
+pub fn may_note(greatest: &[u64], most: usize, loss: u64) -> bool {
     if most == 0 {
         return false;
     }
@@ -93,7 +93,7 @@ fn may_note(greatest: &[u64], most: usize, loss: u64) -> bool {
 }
 
 /// Puts a loss in its place among the `most` greatest.
-fn note(greatest: &mut Vec<u64>, most: usize, loss: u64) -> Result<(), AllocError> {
+pub fn note(greatest: &mut Vec<u64>, most: usize, loss: u64) -> Result<(), AllocError> {
     let mut place = greatest.len();
     while place > 0 && greatest[place - 1] < loss {
         place -= 1;

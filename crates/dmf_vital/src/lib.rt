@@ -20,6 +20,7 @@ mod gain;
 mod guess;
 mod hop;
 mod laws;
+mod least_loss;
 mod loss;
 mod order;
 mod pairs;

@@ -21,8 +21,8 @@ struct Visits {
     visited: u32,
 }
 
-/// The order is worth its searches if there is such a new arc for every so many nodes.
-const NODES_AN_ARC: usize = 8;
+/// With fewer than one such new arc for this many nodes, the order costs more than it saves.
+const NODES_PER_ARC: usize = 8;
 
 /// Lists those of the new arcs that have arcs of their own, by their indices, so that an end of each is often next to that of the one
 /// before, where there is room on the arc that was emptied for it. They are in the order in which a depth-first search from the sink finds
@@ -34,7 +34,7 @@ pub fn list_order(
     firsts: &[u32],
     arcs: &[Arc],
 ) -> Result<Vec<u64>, AllocError> {
-    if count_own(firsts) < more.nodes() as usize / NODES_AN_ARC {
+    if count_own(firsts) < more.nodes() as usize / NODES_PER_ARC {
         return Ok(Vec::new(alloc));
     }
     let of_heads = places_from(alloc, more, rerouting, more.sink(), true)?;

@@ -1,6 +1,6 @@
 ghost use Rattle.std.specs.Prelude.{◌≡◌, false, true, IfOk};
 ghost use Rattle.dmf_node.specs.Node.{IsNode};
-ghost use Rattle.dmf_state.specs.Flow.{AreWithinCapacities, IsInnerNode};
+ghost use Rattle.dmf_state.specs.Flow.{AreWithinCapacities, IsInnerNode, flow_on};
 ghost use Rattle.dmf_state.specs.Network.{IsNetwork, arc_number, has_arc};
 ghost use Rattle.dmf_solver.specs.Greatest.{IsGreatest};
 ghost use Rattle.dmf_vital.specs.Chains.{AreChains};
@@ -109,6 +109,81 @@ pub fn loss_of_node(
         ranks,
     };
     left_on(state, rerouting, exits)
+}
+
+/// Moves flow off arc number `j` to other ways, until it carries no more than this or no way is left. Returns true if none is: what it
+/// carries is lost without it.
+pub fn lower_arc(
+    state: &State,
+    ranks: &[u32],
+    rerouting: &mut Rerouting,
+    j: u32,
+    bound: u64,
+) -> Result<bool, AllocError>
+    requires is_there { has_arc state.now.network j ≡ true }
+    requires ready { IsReady state.now rerouting.old }
+    requires ranks { AreRanks state.now.network rerouting.old.flows.items ranks.now }
+    ensures stuck { IfOk result (λ stuck. stuck ≡ true → IsLossOfArc state.now.network j (flow_on rerouting.new.flows.items j)) }
+    ensures ready { IsReady state.now rerouting.new }
+    ensures ranks { AreRanks state.now.network rerouting.new.flows.items ranks.now }
+{
+    let arc = state.arc(j);
+    if arc.tail == arc.head {
+        return Ok(false);
+    }
+    let exits = Exits {
+        node: arc.tail,
+        arc: j,
+        ranks,
+    };
+    lower(state, rerouting, exits, bound)
+}
+
+/// What is lost without arc number `j`, which was lowered.
+pub fn loss_of_lowered(
+    state: &State,
+    ranks: &[u32],
+    rerouting: &mut Rerouting,
+    j: u32,
+    stuck: bool,
+) -> Result<u64, AllocError>
+    requires is_there { has_arc state.now.network j ≡ true }
+    requires stuck { stuck ≡ true → IsLossOfArc state.now.network j (flow_on rerouting.old.flows.items j) }
+    requires ready { IsReady state.now rerouting.old }
+    requires ranks { AreRanks state.now.network rerouting.old.flows.items ranks.now }
+    ensures loss { IfOk result (IsLossOfArc state.now.network j) }
+    ensures ready { IsReady state.now rerouting.new }
+    ensures ranks { AreRanks state.now.network rerouting.new.flows.items ranks.now }
+{
+    if stuck {
+        return Ok(rerouting.flows[j as usize - 1]);
+    }
+    loss_of_arc(state, ranks, rerouting, j)
+}
+
+/// Moves flow from the exits to other ways, until they carry no more than this or no way is left. Returns true if none is.
+fn lower(
+    state: &State,
+    rerouting: &mut Rerouting,
+    exits: Exits,
+    bound: u64,
+) -> Result<bool, AllocError>
+    requires exits { AreExits state.now.network exits }
+    requires ready { IsReady state.now rerouting.old }
+    requires ranks { AreRanks state.now.network rerouting.old.flows.items exits.ranks.now }
+    ensures stuck { IfOk result (λ stuck. stuck ≡ true → IsLeft state.now.network exits.entry (exit_flow state.now.network exits.entry rerouting.new.flows.items)) }
+    ensures ready { IsReady state.now rerouting.new }
+    ensures ranks { AreRanks state.now.network rerouting.new.flows.items exits.entry.ranks.now }
+{
+    let mut left = flow_on_exits(state, &rerouting.along, exits, &rerouting.flows);
+    while left > bound {
+        let moved = move_off(state, rerouting, exits)?;
+        if moved == 0 {
+            return Ok(true);
+        }
+        left = left.saturating_sub(moved);
+    }
+    Ok(false)
 }
 
 /// What flows through node `v`.

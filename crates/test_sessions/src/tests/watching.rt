@@ -1,6 +1,4 @@
 //! What a session reports to a watch.
-ghost use Rattle.std.specs.Prelude.{map, pos, Some, None, if◌then◌else◌};
-
 use crate::tests::texts::NETWORK_A;
 use dmf_history::MAX_BOUND;
 use dmf_runs::{SessionWatch, SolveReply, Status, run_session_watched};
@@ -19,8 +17,6 @@ struct Paths {
 }
 
 impl Watch for Paths {
-    ghost told = { λ s. if s.is_whole then Some (map (λ path. record { value = pos path.0; links = path.1 }) s.told.items) else None };
-
     fn augmented(&mut self, value: u64, links: u32) {
         self.is_whole = self.is_whole && self.told.push((value, links)).is_ok();
     }
