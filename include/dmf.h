@@ -5,22 +5,23 @@
  * several arcs between two nodes, arcs from a node to itself, into the source and out of the sink. A closed arc keeps its
  * number, and has capacity 0 and no flow.
  *
- * Who owns what.  A session is yours from the call that opens it, dmf_session_new or dmf_session_read, until you give it to
- * dmf_session_free. It is on the heap of malloc, and holds no file, thread or lock. Arrays and texts stay yours: a call
- * reads or writes the places that you lend it, and only while it runs.
- * Pointers.  Only a pointer beside a length of 0 may be NULL, and that of dmf_session_free. What a call writes may not overlap
- * anything else that the same call is given. A length counts elements, and must be true.
+ * Who owns what.  A session is yours from the call that opens it, dmf_session_new, dmf_session_read or dmf_session_copy, until
+ * you give it to dmf_session_free. It is on the heap of malloc, and holds no file, thread or lock. Arrays and texts stay yours: a
+ * call reads or writes the places that you lend it, and only while it runs.
+ * Pointers.  Only a pointer beside a length of 0 may be NULL, and those of dmf_session_free and dmf_stop_free. What a call writes
+ * may not overlap anything else that the same call is given. A length counts elements, and must be true.
  * Threads.  One call at a time for a session; calls that take a const session count too. It need not be the same thread each
- * time. Calls for different sessions may run at the same time if malloc may. No call blocks or starts a thread, and none may
- * be made from a signal handler. After a fork each process has its own copy of the session; if other threads were running,
- * the child must not make any call, since it must not call malloc.
+ * time. Calls for different sessions may run at the same time if malloc may. The same holds for a dmf_stop. No call blocks or
+ * starts a thread, and none may be made from a signal handler. After a fork each process has its own copy of the session; if
+ * other threads were running, the child must not make any call, since it must not call malloc.
  * Time.  A solve may take long, and so may cap, close and shut if the flow runs over many paths, steps over many states, the
- * losses, gains, and a maximum flow. Every other call looks at each arc a few times at most. Nothing stops a call before it is done.
+ * losses, gains, and a maximum flow. Every other call looks at each arc a few times at most. Only dmf_session_solve_until can
+ * be stopped before it is done.
  * Memory.  A session takes some 35 bytes an arc, 80 after its first solve, and 110 after the first change that takes flow
  * off. Any call below may answer DMF_NO_MEMORY unless a comment says that it takes none; then free something and try again.
  * Limits.  2 to 16,777,216 nodes, up to 134,217,728 arcs, closed ones counted. The capacities add up to at most 2^64 - 1.
- * Refusals.  A call that returns anything but DMF_OK has left the session as it was, and the arrays too: only what its
- * comment says has been written. No call prints, aborts, or changes errno on purpose. Each comment names what the call may
+ * Refusals.  A call that returns anything but DMF_OK has left the session as it was, and the arrays too, but for dmf_session_run:
+ * only what its comment says has been written. No call prints, aborts, or changes errno on purpose. Each comment names what the call may
  * answer besides DMF_OK and DMF_NO_MEMORY.
  */
 #ifndef DMF_H
@@ -54,7 +55,8 @@ enum dmf_status {
     DMF_BAD_TEXT = 12,       /* the text is not a problem text */
     DMF_OVER_CAPACITY = 13,  /* the flow on an arc exceeds its capacity */
     DMF_NOT_CONSERVED = 14,  /* more flow enters a node than leaves it, or less */
-    DMF_NEGATIVE = 15        /* more flow enters the source than leaves it */
+    DMF_NEGATIVE = 15,       /* more flow enters the source than leaves it */
+    DMF_STOPPED = 16         /* the flag of a dmf_stop was raised */
 };
 
 /* The first fault of a problem text. The numbers never change. */
@@ -98,6 +100,7 @@ static inline const char *dmf_status_text(int status)
     case DMF_OVER_CAPACITY: return "flow exceeds the capacity of an arc";
     case DMF_NOT_CONSERVED: return "flow is not conserved at a node";
     case DMF_NEGATIVE: return "more flow enters the source than leaves it";
+    case DMF_STOPPED: return "stopped";
     default: return "unknown status";
     }
 }
@@ -130,6 +133,9 @@ static inline const char *dmf_fault_text(int fault)
 /* A session. What it holds is private. */
 typedef struct dmf_session dmf_session;
 
+/* A hold of a flag by which one thread ends the solves of others. Each thread has a stop of its own. */
+typedef struct dmf_stop dmf_stop;
+
 /* The version of the library, which may be newer than DMF_VERSION: 10,000 times the first number, 100 times the second, and
  * the third. */
 uint32_t dmf_version(void);
@@ -160,6 +166,11 @@ enum dmf_status dmf_session_new(uint32_t nodes, uint32_t source, uint32_t sink,
 enum dmf_status dmf_session_read(const uint8_t *text, size_t length, uint32_t past,
                                  dmf_session **session, uint64_t *line, uint32_t *fault);
 
+/* Opens another session with the same states before and after the present one, and the same bound. The two share nothing: a
+ * change of one is not seen in the other. Takes time and memory for each arc, and for each flow that these states' changes
+ * moved. On DMF_OK *copy is the new session, otherwise it is unchanged. */
+enum dmf_status dmf_session_copy(const dmf_session *session, dmf_session **copy);
+
 /* Frees a session, which must not be used or freed again: nothing checks that. Does nothing at NULL. Takes no memory. */
 void dmf_session_free(dmf_session *session);
 
@@ -181,6 +192,27 @@ enum dmf_status dmf_session_shut(dmf_session *session, uint64_t node);
 /* Augments the present flow to a maximum flow. Appends a state even if it was one. Refused only if memory is short. */
 enum dmf_status dmf_session_solve(dmf_session *session);
 
+/* Does the same, unless the flag of `stop` is raised before the solve is done. Then the answer is DMF_STOPPED, and the session is as
+ * it was, with its history. The flag is looked at before the solve, and after each augmenting path. It stays raised. */
+enum dmf_status dmf_session_solve_until(dmf_session *session, dmf_stop *stop);
+
+/* ---- Flags, which end a solve from another thread ------------------------------------------------------------------------- */
+
+/* Makes a flag, which is not raised, and a stop that holds it. On DMF_OK *stop is the new stop, otherwise it is unchanged. */
+enum dmf_status dmf_stop_new(dmf_stop **stop);
+
+/* Makes another stop that holds the same flag, for another thread. On DMF_OK *other is the new stop, otherwise it is unchanged. */
+enum dmf_status dmf_stop_share(dmf_stop *stop, dmf_stop **other);
+
+/* Raises the flag, at once for all that hold it. Takes no memory. */
+void dmf_stop_raise(dmf_stop *stop);
+
+/* Takes the flag down. Takes no memory. */
+void dmf_stop_clear(dmf_stop *stop);
+
+/* Frees a stop; the last one frees the flag. It must not be used or freed again. Does nothing at NULL. Takes no memory. */
+void dmf_stop_free(dmf_stop *stop);
+
 /* ---- Steps: all of them, or none; 0 steps are DMF_OK --------------------------------------------------------------------- */
 
 /* Steps back by this many states: the session is again in that state, arc for arc. DMF_NOTHING_TO_UNDO. Takes no memory. */
@@ -188,6 +220,31 @@ enum dmf_status dmf_session_undo(dmf_session *session, uint64_t steps);
 
 /* Steps forward by this many undone states. DMF_NOTHING_TO_REDO. Takes memory only if an added arc comes back. */
 enum dmf_status dmf_session_redo(dmf_session *session, uint64_t steps);
+
+/* ---- Many commands in one call -------------------------------------------------------------------------------------------- */
+
+/* What a command does, and the numbers that it has. The numbers of the kinds never change. */
+enum dmf_command {
+    DMF_COMMAND_CAP = 1,   /* an arc and its new capacity */
+    DMF_COMMAND_ADD = 2,   /* a tail, a head and a capacity */
+    DMF_COMMAND_CLOSE = 3, /* an arc */
+    DMF_COMMAND_SHUT = 4,  /* a node */
+    DMF_COMMAND_SOLVE = 5,
+    DMF_COMMAND_UNDO = 6,  /* how many steps */
+    DMF_COMMAND_REDO = 7   /* how many steps */
+};
+
+/* Carries out commands, one after another, as the calls above do. Command k is the enum dmf_command kinds[k]; its numbers are
+ * firsts[k], seconds[k] and thirds[k], as many as it has. values[k] becomes the value of the flow after it. Stops at the first
+ * command that is refused, and answers what its call does, or DMF_BAD_NUMBER if it is no enum dmf_command. *done becomes how
+ * many commands were carried out. What they did stays, since the history may have forgotten the state before them: to be able
+ * to go back, copy the session first. The other values are unchanged. The five lengths must be the same, otherwise the answer
+ * is DMF_BAD_LENGTH and nothing is done. */
+enum dmf_status dmf_session_run(dmf_session *session, const uint32_t *kinds, size_t kind_count,
+                                const uint64_t *firsts, size_t first_count,
+                                const uint64_t *seconds, size_t second_count,
+                                const uint64_t *thirds, size_t third_count,
+                                uint64_t *values, size_t value_count, size_t *done);
 
 /* ---- The present state: none of these changes it; the side and what stands below it take memory, the others do not ------- */
 
@@ -214,6 +271,14 @@ enum dmf_status dmf_session_arc_range(const dmf_session *session, uint64_t first
                                       uint64_t *capacities, size_t capacity_count,
                                       uint64_t *flows, size_t flow_count,
                                       uint8_t *closed, size_t closed_count);
+
+/* What the last step moved: the arcs whose flow in the present state differs from that in the state before it, in ascending order.
+ * At index k, `arcs` gets the number of such an arc, `before` its flow in the state before, and `after` its flow now. Each array
+ * gets as many as it has room for, from index 0 on; its other elements are unchanged, and a length may be 0. *found becomes how
+ * many such arcs there are, which may be more. DMF_NOTHING_TO_UNDO if no state is kept before the present one. */
+enum dmf_status dmf_session_moved(const dmf_session *session, uint32_t *arcs, size_t arc_count,
+                                  uint64_t *before, size_t before_count,
+                                  uint64_t *after, size_t after_count, size_t *found);
 
 /* The side of the smallest minimum cut: side[v - 1] becomes 1 if every minimum cut has node v on the source's side, otherwise 0.
  * The arcs that leave the side are the limit: their capacities add up to the value. `count` is dmf_session_nodes(session), or

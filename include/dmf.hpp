@@ -14,7 +14,7 @@
 // std::bad_alloc if memory is short. Functions marked noexcept neither throw nor allocate.
 // Arrays.  A dmf::span is made from a pointer and a size, or from anything with data() and size(): std::vector, std::array,
 // std::span in C++20. It may be empty. What a call writes may not overlap what it reads.
-// Threads.  One call at a time for each session, const functions too; different sessions are independent.
+// Threads.  One call at a time for each session, const functions too; different sessions are independent. So for a dmf::stop.
 // Cost.  Each function costs what its call costs, plus a std::vector or std::string if it returns one.
 #ifndef DMF_HPP
 #define DMF_HPP
@@ -58,6 +58,7 @@ enum class status : std::uint32_t {
     over_capacity = DMF_OVER_CAPACITY,
     not_conserved = DMF_NOT_CONSERVED,
     negative = DMF_NEGATIVE,
+    stopped = DMF_STOPPED,
 };
 
 /// The first fault of a problem text. The comments of enum dmf_fault say what each means.
@@ -170,6 +171,41 @@ struct judgement {
     explicit operator bool() const noexcept { return status == dmf::status::ok; }
 };
 
+/// What a command of session::run does. The comments of enum dmf_command say which numbers it has.
+enum class kind : std::uint32_t {
+    cap = DMF_COMMAND_CAP,
+    add = DMF_COMMAND_ADD,
+    close = DMF_COMMAND_CLOSE,
+    shut = DMF_COMMAND_SHUT,
+    solve = DMF_COMMAND_SOLVE,
+    undo = DMF_COMMAND_UNDO,
+    redo = DMF_COMMAND_REDO,
+};
+
+/// A command of session::run, with as many numbers as its kind has.
+struct command {
+    dmf::kind kind;
+    std::uint64_t first = 0;
+    std::uint64_t second = 0;
+    std::uint64_t third = 0;
+};
+
+/// What session::run has done.
+struct run_result {
+    dmf::status status;                ///< ok if every command was carried out; otherwise why the next one is refused
+    std::vector<std::uint64_t> values; ///< the value of the flow after each command that was carried out
+
+    /// Returns true if every command was carried out.
+    explicit operator bool() const noexcept { return status == dmf::status::ok; }
+};
+
+/// An arc whose flow the last step changed.
+struct flow_change {
+    std::uint32_t arc;
+    std::uint64_t before; ///< its flow in the state before the present one
+    std::uint64_t after;  ///< its flow in the present state
+};
+
 /// Returns the version of the library: 10,000 times the first number, 100 times the second, and the third.
 [[nodiscard]] inline std::uint32_t version() noexcept { return dmf_version(); }
 
@@ -198,12 +234,52 @@ inline std::vector<std::uint32_t> numbers_to(std::size_t last) {
 
 struct closer {
     void operator()(dmf_session *session) const noexcept { dmf_session_free(session); }
+    void operator()(dmf_stop *stop) const noexcept { dmf_stop_free(stop); }
 };
 
 } // namespace detail
 
-/// A network with a flow on it, and the states before and after the present one. It frees itself. It can be moved but
-/// not copied; after a move, the old one may only be assigned to or destroyed.
+/// A hold of a flag by which one thread ends the solves of others. A copy holds the same flag. Each thread needs a copy of its
+/// own; after a move, the old one may only be assigned to or destroyed.
+class stop {
+public:
+    /// Makes a flag that is not raised. Throws std::bad_alloc.
+    stop() {
+        dmf_stop *handle = nullptr;
+        detail::expect_ok(dmf_stop_new(&handle));
+        handle_.reset(handle);
+    }
+
+    /// Holds the same flag. Throws std::bad_alloc.
+    stop(const stop &other) {
+        dmf_stop *handle = nullptr;
+        detail::expect_ok(dmf_stop_share(other.get(), &handle));
+        handle_.reset(handle);
+    }
+    stop(stop &&other) noexcept = default;
+
+    stop &operator=(const stop &other) { return *this = stop(other); }
+    stop &operator=(stop &&other) noexcept = default;
+    ~stop() = default;
+
+    /// Raises the flag, which ends each solve that looks at it.
+    void raise() noexcept { dmf_stop_raise(get()); }
+
+    /// Takes the flag down.
+    void clear() noexcept { dmf_stop_clear(get()); }
+
+    /// Returns the stop for calls of dmf.h. It still belongs to this object.
+    [[nodiscard]] dmf_stop *get() const noexcept {
+        assert(handle_ && "this stop was moved from");
+        return handle_.get();
+    }
+
+private:
+    std::unique_ptr<dmf_stop, detail::closer> handle_;
+};
+
+/// A network with a flow on it, and the states before and after the present one. It frees itself. It can be moved, and copied
+/// by copy() alone; after a move, the old one may only be assigned to or destroyed.
 class session {
 public:
     /// Opens a session on a network of `nodes` nodes, with the arcs of three arrays of the same size and no flow. It keeps
@@ -213,7 +289,7 @@ public:
             span<const std::uint32_t> heads, span<const std::uint64_t> capacities, std::uint32_t past = max_past)
         : handle_(opened(nodes, source, sink, tails, heads, capacities, past)) {}
 
-    /// Takes over a session that dmf_session_new or dmf_session_read returned, and frees it in the end.
+    /// Takes over a session that a call of dmf.h opened, and frees it in the end.
     explicit session(dmf_session *handle) noexcept : handle_(handle) {}
 
     /// Opens a session on a problem text in the DIMACS format. Throws text_error with the line and what is wrong there,
@@ -227,6 +303,13 @@ public:
         if (answer == DMF_BAD_TEXT)
             throw text_error(line, static_cast<dmf::fault>(fault));
         detail::expect_ok(answer);
+        return session(handle);
+    }
+
+    /// Opens another session with the same states, which shares nothing with this one. Throws only std::bad_alloc.
+    [[nodiscard]] session copy() const {
+        dmf_session *handle = nullptr;
+        detail::expect_ok(dmf_session_copy(live(), &handle));
         return session(handle);
     }
 
@@ -262,6 +345,9 @@ public:
     /// flow. Throws only std::bad_alloc.
     void solve() { detail::expect_ok(dmf_session_solve(live())); }
 
+    /// Does the same, unless the flag is raised before the solve is done. Then throws error with stopped.
+    void solve(stop &until) { detail::expect_ok(dmf_session_solve_until(live(), until.get())); }
+
     // ---- Steps: all of them, or none
 
     /// Steps back by this many states, each as it was, arc for arc. Throws error with nothing_to_undo. Takes no memory.
@@ -270,6 +356,29 @@ public:
     /// Steps forward by this many undone states. Throws error with nothing_to_redo. Takes memory, and may throw
     /// std::bad_alloc, only if an added arc comes back.
     void redo(std::uint64_t steps = 1) { detail::expect_ok(dmf_session_redo(live(), steps)); }
+
+    // ---- Many commands in one call
+
+    /// Carries out commands, one after another, up to the first that is refused. A refused command is a status and not an error, also
+    /// if memory is short: what was done before it stays. Throws std::bad_alloc before anything is done.
+    run_result run(span<const command> commands) {
+        std::vector<std::uint32_t> kinds(commands.size());
+        std::vector<std::uint64_t> firsts(commands.size()), seconds(commands.size()), thirds(commands.size());
+        for (std::size_t k = 0; k < commands.size(); k++) {
+            const command &given = commands.data()[k];
+            kinds[k] = static_cast<std::uint32_t>(given.kind);
+            firsts[k] = given.first;
+            seconds[k] = given.second;
+            thirds[k] = given.third;
+        }
+        std::vector<std::uint64_t> values(commands.size());
+        std::size_t done = 0;
+        const dmf_status answer =
+            dmf_session_run(live(), kinds.data(), kinds.size(), firsts.data(), firsts.size(), seconds.data(), seconds.size(),
+                            thirds.data(), thirds.size(), values.data(), values.size(), &done);
+        values.resize(done);
+        return {static_cast<status>(answer), std::move(values)};
+    }
 
     // ---- The present state, which none of these changes
 
@@ -321,6 +430,28 @@ public:
         detail::expect_ok(dmf_session_arc_range(live(), first, count, tails.data(), tails.size(), heads.data(), heads.size(),
                                                 capacities.data(), capacities.size(), flows.data(), flows.size(),
                                                 closed.data(), closed.size()));
+    }
+
+    /// Returns what the last step moved: the arcs whose flow differs from that in the state before, in ascending order. Throws error
+    /// with nothing_to_undo, or std::bad_alloc.
+    [[nodiscard]] std::vector<flow_change> moved() const {
+        std::vector<std::uint32_t> arcs(moved({}, {}, {}));
+        std::vector<std::uint64_t> before(arcs.size()), after(arcs.size());
+        moved(arcs, before, after);
+        std::vector<flow_change> found;
+        found.reserve(arcs.size());
+        for (std::size_t k = 0; k < arcs.size(); k++)
+            found.push_back({arcs[k], before[k], after[k]});
+        return found;
+    }
+
+    /// Writes these arcs, their flows before and their flows now into arrays, each as many as it has room for, and returns how many
+    /// arcs there are. Takes no memory. Throws error with nothing_to_undo.
+    std::size_t moved(span<std::uint32_t> arcs, span<std::uint64_t> before, span<std::uint64_t> after) const {
+        std::size_t found = 0;
+        detail::expect_ok(dmf_session_moved(live(), arcs.data(), arcs.size(), before.data(), before.size(), after.data(),
+                                            after.size(), &found));
+        return found;
     }
 
     /// Returns the source side of the smallest minimum cut: 1 at index v - 1 if every minimum cut has node v on the source

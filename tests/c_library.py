@@ -9,6 +9,9 @@ import subprocess
 from collections.abc import Iterable, Sequence
 from ctypes import byref, c_size_t, c_uint8, c_uint32, c_uint64, c_void_p
 from pathlib import Path
+from random import Random
+
+from c_arrays import ODD, ODD_NUMBER, array_of, odd_array
 
 ROOT = Path(__file__).resolve().parent.parent
 HEADER = ROOT / "include/dmf.h"
@@ -56,28 +59,13 @@ def want(status: int, place: int = 0) -> None:
         raise Refused(status, place)
 
 
-# What stands in each place that a call may write before the call.
-ODD = 0xA5
-ODD_NUMBER = 0xA5A5_A5A5
 # Numbers of `enum dmf_status`.
 NO_MEMORY, NO_SUCH_NODE, NO_SUCH_ARC, TOO_MANY_ARCS, SUM_TOO_LARGE = 1, 2, 3, 5, 6
 NOT_GREATEST, BAD_LENGTH, BAD_TEXT = 9, 10, 12
 
 
-def odd_array(
-    kind: type[ctypes._SimpleCData[int]], count: int
-) -> ctypes.Array[ctypes._SimpleCData[int]]:
-    """An array with odd numbers, and with one place after its last, which stays odd."""
-    array = (kind * (count + 1))()
-    ctypes.memset(array, ODD, ctypes.sizeof(array))
-    return array
-
-
-def array_of(
-    kind: type[ctypes._SimpleCData[int]], numbers: Sequence[int]
-) -> ctypes.Array[ctypes._SimpleCData[int]] | None:
-    """Return an array of these numbers, or NULL if there are none."""
-    return (kind * len(numbers))(*numbers) if numbers else None
+# Numbers of `enum dmf_command`.
+COMMANDS = {"cap": 1, "add": 2, "close": 3, "shut": 4, "solve": 5, "undo": 6, "redo": 7}
 
 
 class Library:
@@ -162,11 +150,46 @@ class CSession:
     def __exit__(self, *_: object) -> None:
         self.calls.dmf_session_free(self.session)
 
+    def copy(self) -> CSession:
+        """Return another session with the same states."""
+        copy = c_void_p(ODD_NUMBER)
+        status = self.calls.dmf_session_copy(self.session, byref(copy))
+        assert (status == 0) == (copy.value != ODD_NUMBER)
+        want(status)
+        return CSession(self.calls, copy)
+
     def number(self, name: str) -> int:
         return int(getattr(self.calls, f"dmf_session_{name}")(self.session))
 
     def step(self, word: str, *numbers: int) -> None:
         want(getattr(self.calls, f"dmf_session_{word}")(self.session, *map(c_uint64, numbers)))
+
+    def run(
+        self, commands: Sequence[Sequence[int]], random: Random, lengths: Sequence[int] = ()
+    ) -> tuple[int, list[int]]:
+        """Carry out commands, each a kind and its numbers, in arrays of these lengths. Random
+        numbers stand where a command has none. Return the answer and the values. The places past
+        these stay."""
+        rows = [
+            [*row, *(random.randrange(2**64) for _ in range(4 - len(row)))] for row in commands
+        ]
+        *given, places = lengths or [len(rows)] * 5
+        columns = [[row[part] for row in rows] for part in range(4)]
+        arguments = [
+            part
+            for kind, column, length in zip((c_uint32, *(c_uint64,) * 3), columns, given)
+            for part in (array_of(kind, (column * 2)[:length]), c_size_t(length))
+        ]
+        values, done = odd_array(c_uint64, places), c_size_t(ODD_NUMBER)
+        before = bytes(values)
+        status = self.calls.dmf_session_run(
+            self.session, *arguments, values if places else None, c_size_t(places), byref(done)
+        )
+        if status == BAD_LENGTH:
+            assert bytes(values) == before and done.value == ODD_NUMBER
+            raise Refused(status)
+        assert bytes(values)[8 * done.value :] == before[8 * done.value :]
+        return int(status), list(map(int, values))[: done.value]
 
     def filled(
         self, name: str, kind: type[ctypes._SimpleCData[int]], count: int
@@ -201,6 +224,28 @@ class CSession:
             assert bytes(place)[-size:] == odd[-size:] and (status == 0 or bytes(place) == odd)
         want(status)
         return [tuple(map(int, place))[:-1] for place in places]
+
+    def moved(self, lengths: Sequence[int]) -> tuple[int, list[tuple[int, ...]]]:
+        """Return how many arcs the last step moved, and what the call puts into arrays of these
+        lengths: numbers, flows before and flows now. An array of length 0 is NULL. What is past
+        those that are put stays, and a refused call puts nothing."""
+        kinds = (c_uint32, c_uint64, c_uint64)
+        places = [odd_array(kind, length) for kind, length in zip(kinds, lengths)]
+        before, found = list(map(bytes, places)), c_size_t(ODD_NUMBER)
+        columns = [
+            part
+            for place, length in zip(places, lengths)
+            for part in (place if length else None, c_size_t(length))
+        ]
+        status = self.calls.dmf_session_moved(self.session, *columns, byref(found))
+        assert status == 0 or found.value == ODD_NUMBER
+        count = found.value if status == 0 else 0
+        for kind, place, length, odd in zip(kinds, places, lengths, before):
+            size = ctypes.sizeof(kind) * min(count, length)
+            assert bytes(place)[size:] == odd[size:]
+        want(status)
+        put = zip(places, lengths)
+        return count, [tuple(map(int, list(place)[: min(count, length)])) for place, length in put]
 
     def maximum_flow(
         self, flow_count: int, side_count: int
@@ -322,16 +367,29 @@ class CSession:
         assert place.value == 0
 
     def text(self, name: str) -> bytes:
-        """Asks for the length, with too little room, and then for the text; the byte after it
-        stays."""
-        length = c_size_t(ODD_NUMBER)
-        call = getattr(self.calls, f"dmf_session_{name}")
-        assert call(self.session, None, c_size_t(0), byref(length)) == BAD_LENGTH
-        for room in 0, 1:
-            text = odd_array(c_uint8, room)
-            assert call(self.session, text, c_size_t(room), byref(length)) == BAD_LENGTH
-            assert set(bytes(text)) == {ODD}
-        text, told = odd_array(c_uint8, length.value), c_size_t(ODD_NUMBER)
-        want(call(self.session, text, c_size_t(length.value), byref(told)))
-        assert told.value == length.value and bytes(text)[length.value] == ODD
-        return bytes(text)[: length.value]
+        """Ask for the length, with too little room, and then for the text."""
+        (length,) = {self._length(name, room) for room in (0, 1)}
+        return self.text_into(name, length)
+
+    def _length(self, name: str, room: int) -> int:
+        try:
+            self.text_into(name, room)
+        except Refused as refused:
+            assert refused.status == BAD_LENGTH
+            return refused.place
+        raise AssertionError("the text has no length")
+
+    def text_into(self, name: str, room: int) -> bytes:
+        """Return the text that the call puts into this much room; a room of 0 bytes is NULL. What
+        stands after the text stays, and a refused call puts nothing. If the room is too small, the
+        exception has the length."""
+        text, length = odd_array(c_uint8, room), c_size_t(ODD_NUMBER)
+        given = text if room else None
+        status = getattr(self.calls, f"dmf_session_{name}")(
+            self.session, given, c_size_t(room), byref(length)
+        )
+        assert (status == NO_MEMORY) == (length.value == ODD_NUMBER)
+        written = length.value if status == 0 else 0
+        assert set(bytes(text)[written:]) == {ODD}
+        want(status, length.value if status == BAD_LENGTH else 0)
+        return bytes(text)[:written]

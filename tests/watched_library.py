@@ -1,4 +1,4 @@
-"""The C library as tests watch it: a solve that waits until it is let go, and which sessions are
+"""The C library as tests watch it: a call that waits until it is let go, and which sessions are
 freed."""
 
 from __future__ import annotations
@@ -7,7 +7,7 @@ import contextlib
 import gc
 import threading
 import time
-from collections.abc import Callable, Iterator
+from collections.abc import Iterator
 from typing import Any
 
 import pytest
@@ -15,26 +15,55 @@ from c_library import library_file
 from dmf.session import library as loaded
 
 SECONDS = 60
+# A network large enough that its calls run beside, whose solve takes a second on an idle processor:
+# a grid with arcs in three directions.
+GRID = """
+import os, random, sys, time
+import dmf
+
+def grid(side):
+    draw = random.Random(side)
+    places = [(x, y) for x in range(side) for y in range(side)]
+    ends = [((x, y), to) for x, y in places for to in ((x + 1, y), (x, y + 1), (x, y - 1))]
+    inside = range(side)
+    rows = [(*it, draw.randint(1, 99)) for it in ends if it[1][0] in inside and it[1][1] in inside]
+    rows += [("s", (0, y), 10**6) for y in inside]
+    return rows + [((side - 1, y), "t", 10**6) for y in inside]
+"""
 
 
 @contextlib.contextmanager
-def slow_solve(
-    monkeypatch: pytest.MonkeyPatch,
+def slow_call(
+    monkeypatch: pytest.MonkeyPatch, word: str
 ) -> Iterator[tuple[threading.Event, threading.Event]]:
-    """A block in which the next solve goes on until the second event comes, and begins with the
-    first."""
-    begun, until = threading.Event(), threading.Event()
-    commands: Any = loaded.load(library_file()).commands
-    solve: Callable[[int], int] = commands["solve"]
+    """A block in which the next call of this command goes on until the second event comes, and
+    begins with the first. A solve in another thread also ends when its flag is raised."""
+    begun, until, raised = threading.Event(), threading.Event(), threading.Event()
+    calls: Any = loaded.load(library_file())
+    at_once, solve_until, put_up = calls.commands[word], calls.solve_until, calls.stop_raise
 
-    def slow(address: int) -> int:
+    def slow(*words: int) -> int:
         if not begun.is_set():
             begun.set()
             until.wait(SECONDS)
-        return solve(address)
+        return int(at_once(*words))
+
+    def slow_until(*words: int) -> int:
+        is_first = word == "solve" and not begun.is_set()
+        begun.set()
+        while is_first and not until.is_set() and not raised.wait(0.01):
+            pass
+        return int(solve_until(*words))
+
+    def noted(stop: int) -> None:
+        put_up(stop)
+        raised.set()
 
     with monkeypatch.context() as patched:
-        patched.setitem(commands, "solve", slow)
+        patched.setitem(calls.commands, word, slow)
+        if word == "solve":
+            patched.setattr(calls, "solve_until", slow_until)
+            patched.setattr(calls, "stop_raise", noted)
         yield begun, until
         until.set()
 

@@ -48,6 +48,7 @@ dmf::session example(std::uint32_t past = dmf::max_past) {
 }
 
 void opening() {
+    // A copy takes memory and time, so it is made by copy() alone.
     static_assert(!std::is_copy_constructible_v<dmf::session> && !std::is_copy_assignable_v<dmf::session>);
     static_assert(std::is_nothrow_move_constructible_v<dmf::session> && std::is_nothrow_move_assignable_v<dmf::session>);
     const std::vector<std::uint32_t> tails = {1, 1, 2, 2, 3};
@@ -142,6 +143,17 @@ void changing() {
     EXPECT(thrown<dmf::error>([&] { session.close(6); }).what() == std::string("dmf: arc is closed"));
 }
 
+void running() {
+    dmf::session session = example();
+    const dmf::run_result all = session.run({{dmf::kind::solve}, {dmf::kind::close, 1}, {dmf::kind::solve}, {dmf::kind::undo, 2}});
+    EXPECT(all && all.values == numbers{5, 2, 2, 5} && session.past() == 1 && session.future() == 2);
+    const dmf::run_result some = session.run({{dmf::kind::redo, 1}, {dmf::kind::cap, 5, 1}, {dmf::kind::add, 1, 4, 7}, {dmf::kind::shut, 5}, {dmf::kind::solve}});
+    EXPECT(!some && some.status == dmf::status::no_such_node && some.values == numbers{2, 1, 1});
+    EXPECT(session.past() == 4 && session.future() == 0 && session.arcs() == 6);
+    EXPECT(session.run({{static_cast<dmf::kind>(8)}}).status == dmf::status::bad_number && session.run({}));
+    EXPECT(session.past() == 4 && session.value() == 1);
+}
+
 void owning() {
     dmf::session first = example(), second = example(0);
     first.solve();
@@ -154,6 +166,24 @@ void owning() {
     EXPECT(first.value() == 0 && dmf_session_solve(first.get()) == DMF_OK && first.value() == 5);
     dmf::session fourth(third.release());
     EXPECT(third.get() == nullptr && fourth.get() == handle && fourth.value() == 5);
+}
+
+void copying() {
+    dmf::session first = example(2);
+    first.solve();
+    first.close(4);
+    first.undo();
+    dmf::session second = std::as_const(first).copy();
+    EXPECT(second.get() != first.get() && second.past() == 1 && second.future() == 1);
+    EXPECT(second.value() == 5 && second.flows() == numbers{3, 2, 1, 2, 3} && second.problem() == text);
+    second.redo();
+    EXPECT(second.flows() == numbers{1, 2, 1, 0, 3} && first.flows() == numbers{3, 2, 1, 2, 3});
+    second.undo(2);
+    for (int solves = 0; solves < 3; solves++)
+        second.solve();
+    EXPECT(second.past() == 2 && first.past() == 1 && first.future() == 1);
+    first = second.copy();
+    EXPECT(first.past() == 2 && first.future() == 0);
 }
 
 void ranging() {
@@ -173,6 +203,30 @@ void ranging() {
     REFUSED(no_such_arc, session.arc_range(0, 3, tails, {}));
     REFUSED(no_such_arc, session.arc_range(4, 3, tails, {}));
     EXPECT(tails == std::vector<std::uint32_t>{1, 2, 2});
+}
+
+bool are(const std::vector<dmf::flow_change> &moved, std::initializer_list<std::array<std::uint64_t, 3>> expected) {
+    std::vector<std::array<std::uint64_t, 3>> found;
+    for (const dmf::flow_change &change : moved)
+        found.push_back({change.arc, change.before, change.after});
+    return found == std::vector(expected);
+}
+
+void moving() {
+    dmf::session session = example();
+    REFUSED(nothing_to_undo, (void)session.moved());
+    session.solve();
+    EXPECT(are(session.moved(), {{1, 0, 3}, {2, 0, 2}, {3, 0, 1}, {4, 0, 2}, {5, 0, 3}}));
+    session.close(4);
+    EXPECT(are(session.moved(), {{1, 3, 1}, {4, 2, 0}}));
+    std::vector<std::uint32_t> arcs(3, 9);
+    numbers before(1, 9), after(2, 9);
+    EXPECT(session.moved(arcs, before, after) == 2 && before == numbers{3} && after == numbers{1, 0});
+    EXPECT(arcs == std::vector<std::uint32_t>{1, 4, 9});
+    session.add(1, 4, 7);
+    EXPECT(session.moved().empty() && session.moved(arcs, {}, {}) == 0 && arcs[0] == 1);
+    session.undo();
+    EXPECT(session.moved({}, {}, after) == 2 && session.past() == 2 && session.future() == 1);
 }
 
 void losing() {
@@ -275,6 +329,27 @@ void finding() {
     EXPECT(session.value() == 0 && session.past() == 0);
 }
 
+// A copy of a stop holds the same flag. A flag that is raised ends each solve, until it is taken down.
+void stopping() {
+    dmf::session session = example();
+    dmf::stop stop, another;
+    dmf::stop copy = stop, moved = std::move(another);
+    session.solve(copy);
+    EXPECT(session.value() == 5 && session.past() == 1);
+    session.undo();
+    copy.raise();
+    REFUSED(stopped, session.solve(stop));
+    REFUSED(stopped, session.solve(copy));
+    EXPECT(session.value() == 0 && session.past() == 0 && session.future() == 1);
+    session.solve(moved);
+    EXPECT(session.value() == 5 && session.past() == 1);
+    moved = copy;
+    REFUSED(stopped, session.solve(moved));
+    stop.clear();
+    session.solve(moved);
+    EXPECT(session.value() == 5 && session.past() == 2);
+}
+
 // The arrays of a network without arcs may lie nowhere.
 void without_arcs() {
     dmf::session session(2, 1, 2, {}, std::vector<std::uint32_t>(), {nullptr, 0});
@@ -292,20 +367,24 @@ int main() {
     reading();
     judging();
     changing();
+    running();
+    copying();
     ranging();
+    moving();
     losing();
     losing_pairs();
     listing_the_worst();
     gaining();
     finding();
     owning();
+    stopping();
     without_arcs();
     EXPECT(dmf::abi() == DMF_ABI && dmf::version() == dmf_version());
-    for (int number : {-1, DMF_NEGATIVE + 1})
+    for (int number : {-1, DMF_STOPPED + 1})
         EXPECT(dmf_status_text(number) == std::string("unknown status"));
     for (int number : {0, DMF_FAULT_SUM_TOO_LARGE + 1})
         EXPECT(dmf_fault_text(number) == std::string("unknown fault"));
-    for (std::uint32_t number = 0; number <= DMF_NEGATIVE; number++)
+    for (std::uint32_t number = 0; number <= DMF_STOPPED; number++)
         std::cout << dmf::text(static_cast<dmf::status>(number)) << "\n";
     for (std::uint32_t number = 1; number <= DMF_FAULT_SUM_TOO_LARGE; number++)
         std::cout << dmf::text(static_cast<dmf::fault>(number)) << "\n";

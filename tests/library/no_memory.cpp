@@ -35,6 +35,7 @@ int main() {
     count += is_refused([&] { session.solve(); });
     const bool unsolved = session.value() == 0 && session.past() == 0;
     session.solve();
+    count += is_refused([&] { (void)session.copy(); });
     count += is_refused([&] { session.close(1); });
     count += is_refused([&] { session.shut(2); });
     count += is_refused([&] { (void)session.side(); });
@@ -56,5 +57,9 @@ int main() {
     count += is_refused([&] { (void)session.problem(); });
     count += is_refused([&] { (void)session.solution(); });
     count += is_refused([&] { (void)session.check({3, 2, 1, 2, 3}); });
+    count += is_refused([] { dmf::stop(); });
+    dmf::stop stop;
+    count += is_refused([&] { (void)dmf::stop(stop); });
+    count += is_refused([&] { session.solve(stop); });
     std::cout << count << (unsolved && unwritten && session.value() == 5 && session.past() == 1 ? "\n" : " and a change\n");
 }

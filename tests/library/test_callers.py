@@ -1,5 +1,5 @@
-"""Programs in C and Python that call the C library: the examples, and one that is refused each
-request for memory in turn. test_cpp.py has those in C++."""
+"""Programs in C and Python that call the C library: the examples, and threads with a session each.
+test_cpp.py has those in C++."""
 
 from __future__ import annotations
 
@@ -54,11 +54,20 @@ def test_no_access_is_bad(folder: Path, tmp_path: Path) -> None:
     assert output_of(*words) == SOLVED
 
 
-def test_each_request_refused(folder: Path, tmp_path: Path) -> None:
-    assert (
-        int(output_of(compiled(["gcc"], Path(__file__).with_name("refusals.c"), folder, tmp_path)))
-        > 20
-    )
+HELGRIND = ["valgrind", "-q", "--tool=helgrind", "--error-exitcode=9"]
+
+
+@pytest.mark.seconds(5)
+def test_a_session_for_each_thread(folder: Path, tmp_path: Path) -> None:
+    """helgrind sees no race between threads with a session each, and sees one as soon as they share
+    a session."""
+    source = Path(__file__).with_name("threads.c")
+    program = compiled(["gcc", "-pthread"], source, folder, tmp_path)
+    assert output_of(*HELGRIND, program) == "4\n"
+    program = compiled(["gcc", "-pthread", "-DSHARED"], source, folder, tmp_path)
+    ran = subprocess.run([*HELGRIND, program], capture_output=True, text=True, timeout=100)
+    assert ran.returncode != 0 and "Possible data race" in ran.stderr
+    assert "round_is_right" in ran.stderr
 
 
 def test_the_names_that_the_library_shows(folder: Path) -> None:

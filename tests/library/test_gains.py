@@ -6,7 +6,6 @@ from __future__ import annotations
 
 from collections.abc import Sequence
 from contextlib import suppress
-from dataclasses import replace
 from random import Random
 
 import pytest
@@ -22,13 +21,10 @@ from c_library import (
     Refused,
     library_folder,
 )
-from c_losses import changed, present
-from oracle.network import Arc, State, solved
+from c_losses import NewArc, changed, gain, present
 
 NODES, ARCS = 4, 5
 FEW, MANY, BATCHES = 120, 12_000, 4
-# A new arc: its tail, its head and its capacity.
-NewArc = tuple[int, int, int]
 
 
 @pytest.fixture(scope="module")
@@ -161,13 +157,6 @@ def added(session: CSession, arcs: Sequence[NewArc]) -> list[int]:
         found.append(session.number("value") - value)
         session.step("undo", session.number("past") - past)
     return found
-
-
-def gain(now: State, arc: NewArc) -> int:
-    """The same by the second implementation."""
-    arcs = now.arcs
-    more = replace(now, arcs=(*arcs, Arc(*arc, False)), flows=(0,) * (len(arcs) + 1))
-    return solved(more).value() - solved(replace(now, flows=(0,) * len(arcs))).value()
 
 
 @pytest.mark.seconds(5)

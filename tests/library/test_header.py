@@ -7,7 +7,7 @@ import re
 from pathlib import Path
 
 import pytest
-from c_library import HEADER, Library, Refused, library_folder
+from c_library import COMMANDS, HEADER, Library, Refused, library_folder
 from dmf.session.statuses import FAULTS, REASONS
 
 BEGIN = "p max 4 2\nn 1 s\nn 4 t\n"
@@ -65,14 +65,21 @@ def test_the_numbers_are_those_of_the_client() -> None:
     assert list(faults) == list(TEXTS) and list(faults.values()) == list(range(1, len(FAULTS)))
     assert FAULTS[-1] == "no memory"
     statuses = {
-        name: number for name, number in numbers("").items() if not name.startswith("FAULT_")
+        name: number
+        for name, number in numbers("").items()
+        if not name.startswith(("FAULT_", "COMMAND_"))
     }
-    assert list(statuses.values()) == list(range(16))
+    assert list(statuses.values()) == list(range(17))
     assert [
         statuses[name]
         for name in ("NO_MEMORY", "NO_SUCH_NODE", "NO_SUCH_ARC", "CLOSED", "NOT_GREATEST")
     ] == [1, 2, 3, 4, 9]
     assert set(REASONS) == set(range(1, 10))
+    assert {name.lower(): number for name, number in numbers("COMMAND_").items()} == COMMANDS
+
+
+def test_no_session_can_be_freed(library: Library) -> None:
+    library.calls.dmf_session_free(None)
 
 
 def test_steps_of_nothing_and_solves_of_nothing(library: Library) -> None:

@@ -3,63 +3,27 @@
 from __future__ import annotations
 
 from collections import Counter
-from collections.abc import Callable
+from collections.abc import Callable, Sequence
 from pathlib import Path
 from random import Random
-from typing import NamedTuple
 
 import pytest
 import random_cases
 from c_library import CSession, Library, Refused, library_folder
+from c_sessions import CODES, Step, compare, moved_rows, random_step, status_of, wanted_status
 from oracle.network import State, is_greatest, smallest_side
 from oracle.problem import problem_text
 from oracle.session import Session, SolveReply
 from oracle.solution import solution_text
-from oracle.texts import Fault
 
-CODES = {
-    "no such node": 2,
-    "no such arc": 3,
-    "arc is closed": 4,
-    "capacities past 64 bits": 6,
-    "nothing to undo": 7,
-    "nothing to redo": 8,
-    "flow is not greatest": 9,
-}
 STEPS, BATCHES = 20_000, 20
 # Sessions whose solves begin near a cut, in the gate and by --long, and the steps of each.
 NEAR, MANY_NEAR, NEAR_STEPS, NEAR_BATCHES = 400, 200_000, 30, 4
 
 
-class Step(NamedTuple):
-    word: str
-    numbers: tuple[int, ...] = ()
-
-
 @pytest.fixture(scope="module")
 def library() -> Library:
     return Library(library_folder())
-
-
-def random_step(session: Session, random: Random) -> Step:
-    state = session.present()
-    arc, node = random.randint(0, len(state.arcs) + 1), random.randint(0, state.nodes + 1)
-    capacity = random.choice([0, 1, random.randint(0, 9), random.randint(0, 99), 2**64 - 1])
-    count = random.choice([0, 1, 1, 2, random.randint(0, 12)])
-    steps = [
-        Step("solve"),
-        Step("solve"),
-        Step("solve"),
-        Step("cap", (arc, capacity)),
-        Step("cap", (arc, capacity)),
-        Step("close", (arc,)),
-        Step("shut", (node,)),
-        Step("add", (node, random.randint(1, state.nodes), capacity)),
-        Step("undo", (count,)),
-        Step("undo", (count,)),
-        Step("redo", (count,)),
-    ]
-    return random.choice(steps)
 
 
 def step_near_a_cut(session: Session, random: Random) -> Step:
@@ -102,28 +66,18 @@ def step_near_a_cut(session: Session, random: Random) -> Step:
     return random.choices([step for _, step in steps], [weight for weight, _ in steps])[0]
 
 
-def status_of(session: CSession, step: Step) -> int:
-    try:
-        session.step(step.word, *step.numbers)
-    except Refused as refused:
-        return refused.status
-    return 0
-
-
-def wanted_status(session: Session, step: Step) -> int:
-    try:
-        session.reply(step.word, *step.numbers)
-    except Fault as fault:
-        return CODES[str(fault)]
-    return 0
-
-
-def compare(given: CSession, wanted: Session) -> None:
-    state = wanted.present()
-    assert given.number("value") == state.value()
-    assert given.number("past") == wanted.place
-    assert given.number("future") == len(wanted.states) - 1 - wanted.place
-    assert given.array("flows") == state.flows
+def compare_what_moved(given: CSession, wanted: Session, lengths: Sequence[int]) -> None:
+    """Compare the arcs whose flow differs between the state before the present one and that one."""
+    moved = moved_rows(wanted)
+    if moved is None:
+        with pytest.raises(Refused) as refused:
+            given.moved(lengths)
+        assert refused.value.status == CODES["nothing to undo"]
+        return
+    count, columns = given.moved(lengths)
+    assert count == len(moved)
+    for part, (column, length) in enumerate(zip(columns, lengths)):
+        assert column == tuple(row[part] for row in moved[:length])
 
 
 def compare_texts_and_side(given: CSession, state: State) -> None:
@@ -176,6 +130,8 @@ def run_session(
             status = wanted_status(wanted, step)
             assert status_of(given, step) == status, step
             compare(given, wanted)
+            lengths = [random.choice([0, 1, 3, len(wanted.present().arcs)]) for _ in range(3)]
+            compare_what_moved(given, wanted, lengths)
             seen[f"{step.word} {status}"] += 1
             if at % 10 == 0:
                 compare_texts_and_side(given, wanted.present())

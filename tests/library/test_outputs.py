@@ -7,17 +7,15 @@ from ctypes import byref, c_size_t, c_uint8, c_uint64
 from itertools import product
 
 import pytest
+from c_arrays import ODD, ODD_NUMBER, odd_array
 from c_library import (
     BAD_LENGTH,
     NO_SUCH_NODE,
-    ODD,
-    ODD_NUMBER,
     SUM_TOO_LARGE,
     CSession,
     Library,
     Refused,
     library_folder,
-    odd_array,
 )
 
 # Of the five arcs of examples/a.max.

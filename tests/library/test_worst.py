@@ -19,11 +19,9 @@ from c_library import (
     Refused,
     library_folder,
 )
-from c_losses import arcs_at, changed, left, present
+from c_losses import Numbers, Rows, among, arcs_at, changed, left, listed, present
 from oracle.network import State
 
-Numbers = tuple[int, ...]
-Rows = list[Numbers]
 NODES, ARCS = 4, 5
 FEW, MANY, BATCHES = 120, 12_000, 4
 # Of the example: the numbers, and what is lost of the 5 that arrive. Without arcs 1 and 2 nothing
@@ -188,21 +186,6 @@ def closed_in_session(session: CSession, pairs: list[tuple[int, int]]) -> list[i
         found.append(value - session.number("value"))
         session.step("undo", session.number("past") - past)
     return found
-
-
-def listed(losses_of: Mapping[Numbers, int], most: int) -> Rows:
-    """The worst of these losses: the greatest first, and equal ones by their numbers."""
-    rows = sorted(losses_of.items(), key=lambda item: (-item[1], item[0]))
-    return [(*numbers, loss) for numbers, loss in rows[:most]]
-
-
-def among(losses_of: Mapping[Numbers, int], marks: Sequence[int]) -> dict[Numbers, int]:
-    """The losses of the arcs, or of the pairs of arcs, that the marks choose."""
-    return {
-        numbers: loss
-        for numbers, loss in losses_of.items()
-        if all(marks[number - 1] for number in numbers)
-    }
 
 
 def judge_lists(

@@ -1,10 +1,16 @@
 pub mod Passed
 pub mod PlanGlue
 pub mod HandleGlue
+pub mod FlagGlue
+pub mod StopGlue
 pub mod Judging
 pub mod Answered
+pub mod Until
 pub mod Siding
 pub mod Maximum
 pub mod Fitting
 pub mod Lost
 pub mod Gaining
+pub mod LastMoved
+pub mod Filling
+pub mod Batches

@@ -1,6 +1,6 @@
 -- Arrays of C's: those that a call fills, and numbers that it judges.
 -- Public: a public contract says no more than this.
-use Rattle.std.specs.Prelude.{ℕ, ◌≡◌, ◌+◌, ◌-◌, ◌<◌, ◌⊎◌, List, length, slice_index, slice_index_or, nat_eq, if◌then◌else◌, MatchBool, MatchOption}
+use Rattle.std.specs.Prelude.{ℕ, ◌≡◌, ◌-◌, ◌<◌, ◌≤◌, ◌⊎◌, List, length, slice_index, slice_index_or, nat_eq, if◌then◌else◌, MatchBool, MatchOption}
 use Rattle.dmf_node.specs.Node.{IsNode}
 use Rattle.dmf_state.specs.declared.fault.FlowFault.{FlowFault}
 use Rattle.dmf_state.specs.declared.fault.FlowFault.TheVariants as flow
@@ -13,6 +13,13 @@ use Rattle.dmf_state.specs.NetworkState.{NetworkState}
 use Rattle.dmf_solver.specs.Greatest.{IsGreatest, IsSurpassed}
 use Rattle.dmf_solver.specs.Optimal.{IsOptimal}
 use Rattle.dmf_c.specs.Status.{DMF_OK, DMF_NO_MEMORY, DMF_NOT_GREATEST, DMF_BAD_LENGTH, DMF_OVER_CAPACITY, DMF_NOT_CONSERVED, DMF_NEGATIVE}
+
+-- An array that keeps its length, gets a number of each item of the list, in order from index 0 on, as many as it has places for, and is otherwise as
+-- before. `none` is what is read past the end of the list.
+pub record BeginsWith {A : Type 0} (number : A → ℕ) (none : A) (items : List A) (before after : List ℕ) : Type 0 where
+  pub size : length after ≡ length before
+  pub first : (k : ℕ) → k < length items → k < length after → slice_index after k ≡ number (slice_index_or items k none)
+  pub others : (k : ℕ) → length items ≤ k → k < length after → slice_index after k ≡ slice_index before k
 
 -- the answer about an array of this length, which should have that one
 abbrev pub length_code : ℕ → ℕ → ℕ

@@ -1,9 +1,10 @@
 -- What C gets for the answer to a command.
 -- Public: a public contract says no more than this.
-use Rattle.std.specs.Prelude.{ℕ, ◌≡◌, Result, Ok, Err, false}
+use Rattle.std.specs.Prelude.{ℕ, ◌≡◌, ◌⊎◌, Bool, Result, Ok, Err, true, false}
 use Rattle.dmf_state.specs.Arc.{open_arc}
 use Rattle.dmf_state.specs.NetworkState.{NetworkState, with_idle_arc}
 use Rattle.dmf_session.specs.declared.command.Command.{Command}
+use Rattle.dmf_session.specs.declared.command.Command.TheVariants.{Solve}
 use Rattle.dmf_session.specs.declared.command.Reply.{Reply}
 use Rattle.dmf_session.specs.declared.command.Refusal.{Refusal}
 use Rattle.dmf_session.specs.declared.command.Refusal.TheVariants.{UnknownCommand, FieldCount, NotANumber, TooLarge, LineTooLong}
@@ -12,7 +13,7 @@ use Rattle.dmf_session.specs.declared.command.Refusal.TheVariants.{NothingToUndo
 use Rattle.dmf_history.specs.Timeline.{Timeline, IsPresent}
 use Rattle.dmf_session.specs.Step.{Answers}
 use Rattle.dmf_c.specs.Status.{DMF_OK, DMF_NO_MEMORY, DMF_NO_SUCH_NODE, DMF_NO_SUCH_ARC, DMF_CLOSED, DMF_TOO_MANY_ARCS, DMF_SUM_TOO_LARGE}
-use Rattle.dmf_c.specs.Status.{DMF_NOTHING_TO_UNDO, DMF_NOTHING_TO_REDO, DMF_NOT_GREATEST}
+use Rattle.dmf_c.specs.Status.{DMF_NOTHING_TO_UNDO, DMF_NOTHING_TO_REDO, DMF_NOT_GREATEST, DMF_STOPPED}
 
 -- a refusal's number; a session that is called gives none of the last five
 abbrev pub refusal_code : Refusal → ℕ
@@ -41,6 +42,15 @@ pub record AnswersCode (t : Timeline) (command : Command) (code : ℕ) (u : Time
   pub answer : Result Reply Refusal
   pub answers : Answers false t command answer u
   pub code_is : code ≡ answer_code answer
+
+-- the number of a solve's answer, if a flag may have ended the solve: if it has, that is why the solve was refused
+abbrev pub until_code : Result Reply Refusal → Bool → ℕ
+until_code (Err NoMemory) true = DMF_STOPPED
+until_code answer has_stopped = answer_code answer
+
+-- A solve that a flag may end has an answer of this number, and leaves the timeline `u`: that of the solve, or it was ended and `u` is `t`.
+abbrev pub AnswersUntil : Timeline → ℕ → Timeline → Type 0
+AnswersUntil t code u = ((code ≡ DMF_STOPPED) × (u ≡ t)) ⊎ AnswersCode t Solve code u
 
 -- The timeline `u` has as its present state that of `t` with one arc more, the last, from `tail` to `head` of this capacity, which carries
 -- no flow. So its number is how many arcs there are.

@@ -1,5 +1,6 @@
 pub mod Handle
 pub mod Owned
+pub mod Stop
 pub mod Status
 pub mod Codes
 pub mod Building
@@ -11,6 +12,9 @@ pub mod Pairs
 pub mod Gains
 pub mod Ranges
 pub mod Worst
+pub mod Differing
+pub mod Moved
+pub mod Running
 pub mod MaximumFlow
 pub mod FaultNumber
 pub mod Texts

@@ -51,8 +51,33 @@ DMF_NOT_CONSERVED = 14
 abbrev pub DMF_NEGATIVE : ℕ
 DMF_NEGATIVE = 15
 
+abbrev pub DMF_STOPPED : ℕ
+DMF_STOPPED = 16
+
 abbrev pub DMF_MAX_PAST : ℕ
 DMF_MAX_PAST = 1000000
+
+-- The kinds of commands that `dmf_session_run` carries out, by the same rule.
+abbrev pub DMF_COMMAND_CAP : ℕ
+DMF_COMMAND_CAP = 1
+
+abbrev pub DMF_COMMAND_ADD : ℕ
+DMF_COMMAND_ADD = 2
+
+abbrev pub DMF_COMMAND_CLOSE : ℕ
+DMF_COMMAND_CLOSE = 3
+
+abbrev pub DMF_COMMAND_SHUT : ℕ
+DMF_COMMAND_SHUT = 4
+
+abbrev pub DMF_COMMAND_SOLVE : ℕ
+DMF_COMMAND_SOLVE = 5
+
+abbrev pub DMF_COMMAND_UNDO : ℕ
+DMF_COMMAND_UNDO = 6
+
+abbrev pub DMF_COMMAND_REDO : ℕ
+DMF_COMMAND_REDO = 7
 
 -- The number is one of these.
 abbrev pub IsOneOf : ℕ → List ℕ → Type 0

@@ -1,10 +1,11 @@
 -- What C gets of the arcs, nodes and pairs of arcs that cost most to lose.
 -- Public: a public contract says no more than this.
-use Rattle.std.specs.Prelude.{ℕ, ◌≡◌, ◌<◌, ◌≤◌, ◌==◌, ◌&&◌, if◌then◌else◌, Bool, true, not, List, length, map, replicate, slice_index, slice_index_or, MatchBool}
+use Rattle.std.specs.Prelude.{ℕ, ◌≡◌, ◌==◌, ◌&&◌, if◌then◌else◌, Bool, true, not, List, length, map, replicate, MatchBool}
 use Rattle.dmf_state.specs.Network.{Network}
 use Rattle.dmf_state.specs.NetworkState.{NetworkState}
 use Rattle.dmf_vital.specs.declared.worst.NumberedLoss.{NumberedLoss}
 use Rattle.dmf_vital.specs.Worst.{AreWorst}
+use Rattle.dmf_c.specs.Arrays.{BeginsWith}
 use Rattle.dmf_c.specs.Losses.{TellsLosses}
 use Rattle.dmf_c.specs.Ranges.{is_column}
 use Rattle.dmf_c.specs.Status.{DMF_BAD_LENGTH}
@@ -13,28 +14,22 @@ use Rattle.dmf_c.specs.Status.{DMF_BAD_LENGTH}
 abbrev pub no_loss : NumberedLoss
 no_loss = record { number = 0; second = 0; loss = 0 }
 
--- An array that keeps its length, gets a number of each loss of the list, in order from index 0 on, and is otherwise as before.
-pub record BeginsWith (number : NumberedLoss → ℕ) (worst : List NumberedLoss) (before after : List ℕ) : Type 0 where
-  pub size : length after ≡ length before
-  pub first : (k : ℕ) → k < length worst → slice_index after k ≡ number (slice_index_or worst k no_loss)
-  pub others : (k : ℕ) → length worst ≤ k → k < length after → slice_index after k ≡ slice_index before k
-
 -- The arrays begin with the numbers of the worst of these losses and with the losses, as many as there is room for, and `found` is how many
 -- those are.
 pub record HasWorst (IsSuch : NumberedLoss → Type 0) (numbers_before numbers_after losses_before losses_after : List ℕ) (found : ℕ) : Type 0 where
   pub worst : List NumberedLoss
   pub are : AreWorst IsSuch (length losses_before) worst
-  pub numbers : BeginsWith (λ w. w.number) worst numbers_before numbers_after
-  pub losses : BeginsWith (λ w. w.loss) worst losses_before losses_after
+  pub numbers : BeginsWith (λ w. w.number) no_loss worst numbers_before numbers_after
+  pub losses : BeginsWith (λ w. w.loss) no_loss worst losses_before losses_after
   pub count : found ≡ length worst
 
 -- The same of pairs of arcs, whose numbers are in two arrays.
 pub record HasWorstPairs (IsSuch : NumberedLoss → Type 0) (firsts_before firsts_after seconds_before seconds_after losses_before losses_after : List ℕ) (found : ℕ) : Type 0 where
   pub worst : List NumberedLoss
   pub are : AreWorst IsSuch (length losses_before) worst
-  pub firsts : BeginsWith (λ w. w.number) worst firsts_before firsts_after
-  pub seconds : BeginsWith (λ w. w.second) worst seconds_before seconds_after
-  pub losses : BeginsWith (λ w. w.loss) worst losses_before losses_after
+  pub firsts : BeginsWith (λ w. w.number) no_loss worst firsts_before firsts_after
+  pub seconds : BeginsWith (λ w. w.second) no_loss worst seconds_before seconds_after
+  pub losses : BeginsWith (λ w. w.loss) no_loss worst losses_before losses_after
   pub count : found ≡ length worst
 
 -- Which arcs are chosen, in order: those with a mark other than 0, or all if there are no marks.

@@ -62,7 +62,29 @@ pub fn open(alloc: Global, state: State, past: u32, session: &mut Slot) -> u32
     ensures answer { Starts (start past state) result session.new.session }
     ensures refused { result ≢ DMF_OK → session.new ≡ session.old }
 {
-    match made(alloc, state, past) {
+    let plan = Plan::new(DeltaHistory::with_bound(alloc, state, past));
+    hand_over(alloc, plan, session)
+}
+
+/// Opens another session with the same states.
+#[unsafe(no_mangle)]
+pub extern "C" fn dmf_session_copy(alloc: Global, session: &mut Handle, copy: &mut Slot) -> u32
+    ensures answer { Starts session.old.timeline result copy.new.session }
+    ensures refused { result ≢ DMF_OK → copy.new ≡ copy.old }
+    ensures unchanged { session.new.timeline ≡ session.old.timeline }
+{
+    match session.plan().copy(alloc) {
+        Ok(plan) => hand_over(alloc, plan, copy),
+        Err(NoMemory) => 1,
+    }
+}
+
+/// Gives C a session.
+fn hand_over(alloc: Global, plan: Plan, session: &mut Slot) -> u32
+    ensures answer { Starts plan result session.new.session }
+    ensures refused { result ≢ DMF_OK → session.new ≡ session.old }
+{
+    match made(alloc, plan) {
         Ok(slot) => {
             *session = slot;
             0
@@ -71,11 +93,9 @@ pub fn open(alloc: Global, state: State, past: u32, session: &mut Slot) -> u32
     }
 }
 
-fn made(alloc: Global, state: State, past: u32) -> Result<Slot, NoMemory>
-    requires { past ≤ DMF_MAX_PAST }
-    ensures { IfOk result (λ slot. slot.session ≡ Some (start past state)) }
+fn made(alloc: Global, plan: Plan) -> Result<Slot, NoMemory>
+    ensures { IfOk result (λ slot. slot.session ≡ Some plan) }
 {
-    let plan = Plan::new(DeltaHistory::with_bound(alloc, state, past));
     let Ok(plan) = Box::new(alloc, plan) else {
         return Err(NoMemory);
     };

@@ -5,7 +5,8 @@ ghost use Rattle.dmf_vital.specs.Worst.{AreWorst, IsArcLossAmong, IsNodeLoss, Is
 ghost use Rattle.dmf_c.specs.Codes.{OfPresent};
 ghost use Rattle.dmf_c.specs.Status.{DMF_OK};
 ghost use Rattle.dmf_c.specs.Losses.{AnswersLosses};
-ghost use Rattle.dmf_c.specs.Worst.{AnswersWorstArcs, AnswersWorstPairs, BeginsWith, HasWorst, HasWorstPairs, chosen};
+ghost use Rattle.dmf_c.specs.Arrays.{BeginsWith};
+ghost use Rattle.dmf_c.specs.Worst.{AnswersWorstArcs, AnswersWorstPairs, HasWorst, HasWorstPairs, chosen, no_loss};
 
 use crate::checking::greatest;
 use crate::handle::Handle;
@@ -212,7 +213,7 @@ fn marked(alloc: Global, marks: &[u8]) -> Result<Vec<bool>, AllocError>
 
 fn put_numbers(worst: &[NumberedLoss], numbers: &mut [u32])
     requires { length worst.now ≤ length numbers.old }
-    ensures { BeginsWith (λ w. w.number) worst.now numbers.old numbers.new }
+    ensures { BeginsWith (λ w. w.number) no_loss worst.now numbers.old numbers.new }
 {
     for i in 0..worst.len() {
         numbers[i] = worst[i].number;
@@ -221,7 +222,7 @@ fn put_numbers(worst: &[NumberedLoss], numbers: &mut [u32])
 
 fn put_seconds(worst: &[NumberedLoss], seconds: &mut [u32])
     requires { length worst.now ≤ length seconds.old }
-    ensures { BeginsWith (λ w. w.second) worst.now seconds.old seconds.new }
+    ensures { BeginsWith (λ w. w.second) no_loss worst.now seconds.old seconds.new }
 {
     for i in 0..worst.len() {
         seconds[i] = worst[i].second;
@@ -230,7 +231,7 @@ fn put_seconds(worst: &[NumberedLoss], seconds: &mut [u32])
 
 fn put_losses(worst: &[NumberedLoss], losses: &mut [u64])
     requires { length worst.now ≤ length losses.old }
-    ensures { BeginsWith (λ w. w.loss) worst.now losses.old losses.new }
+    ensures { BeginsWith (λ w. w.loss) no_loss worst.now losses.old losses.new }
 {
     for i in 0..worst.len() {
         losses[i] = worst[i].loss;

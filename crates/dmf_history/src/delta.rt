@@ -1,4 +1,4 @@
-ghost use Rattle.std.specs.Prelude.{◌≡◌, ◌≤◌, ◌↔◌, IfSome, None};
+ghost use Rattle.std.specs.Prelude.{◌≡◌, ◌≤◌, ◌↔◌, IfSome, None, IfOk};
 ghost use Rattle.dmf_history.specs.declared.history.RedoFault.TheVariants as redo;
 ghost use Rattle.dmf_history.specs.Timeline.{start, future_of, LeadsBack, LeadsOn};
 
@@ -51,6 +51,17 @@ impl DeltaHistory {
             place: 0,
             bound,
         }
+    }
+
+    /// Copies the history, which then shares nothing with its copy. Fails only if memory is refused.
+    pub fn copy(&self, alloc: Global) -> Result<DeltaHistory, NoMemory>
+        ensures { IfOk result (λ copy. copy ≡ self.now) }
+    {
+        Ok(DeltaHistory {
+            present: self.present.copy(alloc)?,
+            edits: self.edits.clone()?,
+            ..*self
+        })
     }
 }
 

@@ -1,6 +1,5 @@
 pub mod Changed
 pub mod Optimal
-pub mod Telling
 pub mod Answering
 pub mod OneAnswer
 pub mod Growing

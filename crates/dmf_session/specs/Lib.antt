@@ -3,7 +3,6 @@ pub mod Kept
 pub mod Optimal
 pub mod RefusalText
 pub mod Step
-pub mod Telling
 pub mod Laws
 pub use Rattle.dmf_state.specs.NetworkState
 pub use Rattle.dmf_solver.specs.Change

@@ -6,8 +6,6 @@ ghost use Rattle.dmf_session.specs.Step.{Answers};
 ghost use Rattle.dmf_session.specs.AppendedEdit.{AnswersAppended};
 ghost use Rattle.dmf_session.specs.Kept.{KeepsPresent, KeepsApplied};
 ghost use Rattle.dmf_session.specs.Optimal.{HasOptimalPresent};
-ghost use Rattle.dmf_session.specs.Telling.{TellsDraining, TellsStep};
-ghost use Rattle.dmf_solver.specs.Told.{AreTold};
 
 use crate::command::{Command, Refusal, Reply};
 use crate::kept::{kept_after, kept_before, kept_with};
@@ -50,6 +48,13 @@ impl<H: History> Session<H> {
             history,
             kept: None,
         }
+    }
+
+    /// The history.
+    pub fn history(&self) -> &H
+        ensures { result.now ≡ self.now }
+    {
+        &self.history
     }
 
     /// The present state.
@@ -112,8 +117,6 @@ impl<H: History> Session<H> {
     ) -> Result<Reply, Refusal>
         ensures answer { Answers want_cut (H.timeline self.old) command result (H.timeline self.new) }
         ensures optimal { command ≡ Solve → OnOk result (HasOptimalPresent (H.timeline self.new)) }
-        ensures told { TellsStep (H.timeline self.old) command result (H.timeline self.new) (W.told watch.old) (W.told watch.new) }
-        ensures drained { TellsDraining (H.timeline self.old) command result (H.timeline self.new) (W.drained watch.old) (W.drained watch.new) }
     {
         let answer = self.carry_out(alloc, command, want_cut, watch);
         self.drop_if_refused(&answer);
@@ -130,8 +133,6 @@ impl<H: History> Session<H> {
     ) -> Result<Reply, Refusal>
         ensures answer { Answers want_cut (H.timeline self.old) command result (H.timeline self.new) }
         ensures optimal { command ≡ Solve → OnOk result (HasOptimalPresent (H.timeline self.new)) }
-        ensures told { TellsStep (H.timeline self.old) command result (H.timeline self.new) (W.told watch.old) (W.told watch.new) }
-        ensures drained { TellsDraining (H.timeline self.old) command result (H.timeline self.new) (W.drained watch.old) (W.drained watch.new) }
     {
         match command {
             Command::Cap { arc, cap } => self.cap(alloc, NewCap { arc, cap }, watch),
@@ -149,9 +150,7 @@ impl<H: History> Session<H> {
 
     #[inline(never)]
     fn cap<W: Watch>(&mut self, alloc: Global, new: NewCap, watch: &mut W) -> Result<Reply, Refusal>
-        ensures answer { (want_cut : Bool) → Answers want_cut (H.timeline self.old) (Cap new.arc new.cap) result (H.timeline self.new) }
-        ensures told { AreTold (W.told watch.old) (W.told watch.new) [] }
-        ensures drained { TellsDraining (H.timeline self.old) (Cap new.arc new.cap) result (H.timeline self.new) (W.drained watch.old) (W.drained watch.new) }
+        ensures { (want_cut : Bool) → Answers want_cut (H.timeline self.old) (Cap new.arc new.cap) result (H.timeline self.new) }
     {
         let edit = plan_cap_watched(alloc, self.history.present(), new, &mut self.kept, watch)?;
         let kept = self.kept.take();
@@ -171,9 +170,7 @@ impl<H: History> Session<H> {
 
     #[inline(never)]
     fn close<W: Watch>(&mut self, alloc: Global, arc: u64, watch: &mut W) -> Result<Reply, Refusal>
-        ensures answer { (want_cut : Bool) → Answers want_cut (H.timeline self.old) (Close arc) result (H.timeline self.new) }
-        ensures told { AreTold (W.told watch.old) (W.told watch.new) [] }
-        ensures drained { TellsDraining (H.timeline self.old) (Close arc) result (H.timeline self.new) (W.drained watch.old) (W.drained watch.new) }
+        ensures { (want_cut : Bool) → Answers want_cut (H.timeline self.old) (Close arc) result (H.timeline self.new) }
     {
         let edit = plan_close_watched(alloc, self.history.present(), arc, &mut self.kept, watch)?;
         let kept = self.kept.take();
@@ -182,9 +179,7 @@ impl<H: History> Session<H> {
 
     #[inline(never)]
     fn shut<W: Watch>(&mut self, alloc: Global, node: u64, watch: &mut W) -> Result<Reply, Refusal>
-        ensures answer { (want_cut : Bool) → Answers want_cut (H.timeline self.old) (Shut node) result (H.timeline self.new) }
-        ensures told { AreTold (W.told watch.old) (W.told watch.new) [] }
-        ensures drained { TellsDraining (H.timeline self.old) (Shut node) result (H.timeline self.new) (W.drained watch.old) (W.drained watch.new) }
+        ensures { (want_cut : Bool) → Answers want_cut (H.timeline self.old) (Shut node) result (H.timeline self.new) }
     {
         let edit = plan_shut_watched(alloc, self.history.present(), node, &mut self.kept, watch)?;
         let kept = self.kept.take();
@@ -201,8 +196,6 @@ impl<H: History> Session<H> {
     ) -> Result<Reply, Refusal>
         ensures answer { Answers want_cut (H.timeline self.old) Solve result (H.timeline self.new) }
         ensures optimal { OnOk result (HasOptimalPresent (H.timeline self.new)) }
-        ensures told { TellsStep (H.timeline self.old) Solve result (H.timeline self.new) (W.told watch.old) (W.told watch.new) }
-        ensures drained { AreTold (W.drained watch.old) (W.drained watch.new) [] }
     {
         greatest_is_optimal();
         let network = self.take_network(alloc)?;

@@ -8,11 +8,8 @@ use Rattle.dmf_path.specs.Search.{Searched}
 use Rattle.dmf_path.specs.Touched.{IsTouched, KeepsUntouched}
 use Rattle.dmf_state.specs.declared.arc.Arc.{Arc}
 use Rattle.dmf_state.specs.Arc.{no_arc}
-use Rattle.dmf_solver.specs.declared.watch.Turn.{Turn}
-use Rattle.dmf_solver.specs.Drain.{value_or_zero}
+use Rattle.dmf_solver.specs.Drain.{Drains, value_or_zero}
 use Rattle.dmf_solver.specs.Moves.{DrainsNext, UntouchedStay}
-use Rattle.dmf_solver.specs.Told.{AreTold}
-use Rattle.dmf_solver.specs.Turns.{Taken, TellsDrain}
 use Rattle.dmf_state.specs.Flow.{flow_on}
 use Rattle.dmf_state.specs.Network.{Network, arc_number, has_arc}
 use Rattle.dmf_state.specs.NetworkState.{NetworkState, with_flows}
@@ -21,10 +18,10 @@ use Rattle.dmf_solver.specs.Pairs.{Along, Carries, IsCarryingSearch, flows_read}
 use Rattle.dmf_state.proofs.ChangedArc.{has_arc-within}
 use Rattle.dmf_state.proofs.Changing.{flow_at-set}
 use Rattle.dmf_solver.proofs.kept.CarryingFollowed.{carries-made}
-use Rattle.dmf_solver.proofs.draining.DrainedLoop.{tells-loop}
+use Rattle.dmf_solver.proofs.draining.DrainedLoop.{drained-loop}
 use Rattle.dmf_solver.proofs.draining.Draining.{drains-state}
 use Rattle.dmf_solver.proofs.draining.DrainingSearch.{carries-read, IsCarryingSearch-from}
-use Rattle.dmf_solver.proofs.draining.DrainingWalk.{tells-none}
+use Rattle.dmf_solver.proofs.draining.DrainingWalk.{drains-none}
 use Rattle.dmf_solver.proofs.pairs.Untouched.{drained-stay}
 
 -- The pairs of the arcs stay.
@@ -44,26 +41,18 @@ value-lowered n flows k flow long within loop =
     omega (arith, out, into)
 
 -- Taking the flow of a self loop down to 0, in the list, drains it.
-pub drained-by_list : (s : NetworkState) (turn : Turn) (unpaired : List ℕ) (search : Searched) (touched : Option (List ℕ))
-    (before after : Option (List Taken)) → has_arc s.network turn.arc ≡ true
-    → (arc_number s.network turn.arc).tail ≡ (arc_number s.network turn.arc).head → turn.limit ≡ 0 → IsCarryingSearch s unpaired search
-    → 0 < flow_on unpaired turn.arc → IsTouched touched (turn.arc - 1)
-    → AreTold before after (record { turn = turn; amount = flow_on unpaired turn.arc } ∷ []) → DrainsNext s turn unpaired touched search search before after
-drained-by_list s turn unpaired search touched before after has loop to_zero carries above own told =
+pub drained-by_list : (s : NetworkState) (j : ℕ) (unpaired : List ℕ) (search : Searched) (touched : Option (List ℕ)) → has_arc s.network j ≡ true
+    → (arc_number s.network j).tail ≡ (arc_number s.network j).head → IsCarryingSearch s unpaired search → 0 < flow_on unpaired j
+    → IsTouched touched (j - 1) → DrainsNext s j unpaired touched search search
+drained-by_list s j unpaired search touched has loop carries above own =
     let n : Network = s.network in
-    let j : ℕ = turn.arc in
     let k : ℕ = j - 1 in
     let flows : List ℕ = flows_read Along unpaired search.pairs in
     let at = has_arc-within n j has in
     let long = AllZip-long _ n.arcs flows carries.state.flow.within in
     let here : get_or flows k 0 ≡ get_or unpaired k 0 = carries.loops k at.1 loop in
-    let amount : get_or unpaired k 0 ≡ flow_on flows j - turn.limit = omega (arith, here, to_zero) in
-    let reported : AreTold before after (record { turn = turn; amount = flow_on flows j - turn.limit } ∷ []) =
-    subst (λ x. AreTold before after (record { turn = turn; amount = x } ∷ [])) amount told in
-    let drains : TellsDrain n turn flows (set flows k 0) before after =
-    subst (λ low. TellsDrain n turn flows (set flows k low) before after) to_zero
-    (tells-loop n turn flows before after has carries.state.flow loop (omega (arith, above, here, to_zero)) reported) in
-    let left = drains-state s j turn.limit flows (set flows k 0) carries.state has drains.drains in
+    let drains : Drains n j 0 flows (set flows k 0) = drained-loop n j 0 flows has carries.state.flow loop (omega (arith, above, here)) in
+    let left = drains-state s j 0 flows (set flows k 0) carries.state has drains in
     let value = value-lowered n flows k 0 long at.1 loop in
     let last : return_pair n (set flows k 0) ≡ return_pair n flows = rw value refl in
     let next : Carries s (set unpaired k 0) (set flows k 0) search = record {
@@ -82,37 +71,36 @@ drained-by_list s turn unpaired search touched before after has loop to_zero car
     let read = sym (carries-read s (set unpaired k 0) (set flows k 0) search next) in
     record {
       carrying = IsCarryingSearch-from s (set unpaired k 0) (set flows k 0) search next;
-      drains = subst (λ last. TellsDrain n turn flows last before after) read drains;
+      drains = subst (Drains n j 0 flows) read drains;
       others_stay = subst (UntouchedStay touched flows) read
           (λ i untouched. sym (get_or-set_other flows k i 0 0 (λ (here : i ≡ k). untouched (subst (IsTouched touched) (sym here) own))));
     }
 
 -- If nothing flows on it, it is drained already.
-pub drained-in_list : (s : NetworkState) (turn : Turn) (unpaired : List ℕ) (search : Searched) (touched : Option (List ℕ)) (told : Option (List Taken))
-    → has_arc s.network turn.arc ≡ true → (arc_number s.network turn.arc).tail ≡ (arc_number s.network turn.arc).head
-    → IsCarryingSearch s unpaired search → flow_on unpaired turn.arc ≤ 0 → DrainsNext s turn unpaired touched search search told told
-drained-in_list s turn unpaired search touched told has loop carries none =
-    let k : ℕ = turn.arc - 1 in
-    let at = has_arc-within s.network turn.arc has in
+pub drained-in_list : (s : NetworkState) (j : ℕ) (unpaired : List ℕ) (search : Searched) (touched : Option (List ℕ)) → has_arc s.network j ≡ true
+    → (arc_number s.network j).tail ≡ (arc_number s.network j).head → IsCarryingSearch s unpaired search → flow_on unpaired j ≤ 0
+    → DrainsNext s j unpaired touched search search
+drained-in_list s j unpaired search touched has loop carries none =
+    let k : ℕ = j - 1 in
+    let at = has_arc-within s.network j has in
     let here = carries.loops k at.1 loop in
     let empty : get_or unpaired k 0 ≡ 0 = omega (arith, none) in
     let same : set unpaired k 0 ≡ unpaired = subst (λ x. set unpaired k x ≡ unpaired) empty (set-get_or unpaired k 0) in
     let flows : List ℕ = flows_read Along unpaired search.pairs in
     record {
       carrying = subst (λ xs. IsCarryingSearch s xs search) (sym same) carries;
-      drains = subst (λ xs. TellsDrain s.network turn flows (flows_read Along xs search.pairs) told told) (sym same)
-          (tells-none s.network turn flows told (omega (arith, here, none)));
+      drains = subst (λ xs. Drains s.network j 0 flows (flows_read Along xs search.pairs)) (sym same)
+          (drains-none s.network j 0 flows (omega (arith, here, none)));
       others_stay = λ i untouched. ap (λ xs. get_or (flows_read Along xs search.pairs) i 0) (sym same);
     }
 
 -- The list's number of an arc that is no self loop counts for nothing.
-pub drained-by_search : (s : NetworkState) (turn : Turn) (unpaired : List ℕ) (old new : Searched) (touched : Option (List ℕ))
-    (before after : Option (List Taken)) → (arc_number s.network turn.arc).tail ≢ (arc_number s.network turn.arc).head
-    → IsCarryingSearch s unpaired old → IsCarryingSearch s unpaired new
-    → TellsDrain s.network turn (flows_read Along unpaired old.pairs) (flows_read Along unpaired new.pairs) before after
-    → KeepsUntouched touched old.pairs new.pairs → DrainsNext s turn unpaired touched old new before after
-drained-by_search s turn unpaired old new touched before after apart begun carries drains keeps =
-    let k : ℕ = turn.arc - 1 in
+pub drained-by_search : (s : NetworkState) (j : ℕ) (unpaired : List ℕ) (old new : Searched) (touched : Option (List ℕ))
+    → (arc_number s.network j).tail ≢ (arc_number s.network j).head → IsCarryingSearch s unpaired old → IsCarryingSearch s unpaired new
+    → Drains s.network j 0 (flows_read Along unpaired old.pairs) (flows_read Along unpaired new.pairs) → KeepsUntouched touched old.pairs new.pairs
+    → DrainsNext s j unpaired touched old new
+drained-by_search s j unpaired old new touched apart begun carries drains keeps =
+    let k : ℕ = j - 1 in
     let flows : List ℕ = flows_read Along unpaired new.pairs in
     let next : Carries s (set unpaired k 0) flows new = record {
       state = carries.state;
@@ -125,6 +113,6 @@ drained-by_search s turn unpaired old new touched before after apart begun carri
     let read = sym (carries-read s (set unpaired k 0) flows new next) in
     record {
       carrying = IsCarryingSearch-from s (set unpaired k 0) flows new next;
-      drains = subst (λ last. TellsDrain s.network turn (flows_read Along unpaired old.pairs) last before after) read drains;
+      drains = subst (Drains s.network j 0 (flows_read Along unpaired old.pairs)) read drains;
       others_stay = subst (UntouchedStay touched (flows_read Along unpaired old.pairs)) read (drained-stay s unpaired old new touched begun carries keeps);
     }

@@ -2,8 +2,6 @@ pub mod Greatest
 pub mod Optimal
 pub mod Residual
 pub mod Solve
-pub mod Told
-pub mod Turns
 pub mod Drain
 pub mod Change
 pub mod Laws

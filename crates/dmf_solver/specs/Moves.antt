@@ -1,6 +1,6 @@
 -- The moves that drain an arc.
 -- Private: only contracts inside the crate and proofs use this.
-use Rattle.std.specs.Prelude.{ℕ, ◌≡◌, ◌≢◌, ◌+◌, ◌-◌, ◌≤◌, true, false, List, [], ◌∷◌, length, slice_index, slice_index_or, slice_set, IfSome, Option, Result, MatchResult}
+use Rattle.std.specs.Prelude.{ℕ, ◌≡◌, ◌≢◌, ◌+◌, ◌-◌, ◌≤◌, true, false, List, [], ◌∷◌, length, slice_index, slice_index_or, slice_set, IfSome, Option}
 use Rattle.dmf_path.specs.Search.{Covers, Searched}
 use Rattle.dmf_path.specs.Touched.{IsTouched}
 use Rattle.dmf_state.specs.declared.arc.Arc.{Arc}
@@ -9,9 +9,7 @@ use Rattle.dmf_state.specs.declared.edit.Shutting.{Shutting}
 use Rattle.dmf_state.specs.Arc.{is_open_at, no_arc}
 use Rattle.dmf_solver.specs.declared.drain.Drained.{Drained}
 use Rattle.dmf_solver.specs.CarryingNetwork.{MayCarry}
-use Rattle.dmf_solver.specs.declared.watch.Turn.{Turn}
 use Rattle.dmf_solver.specs.Drain.{Drains, TakesOff}
-use Rattle.dmf_solver.specs.Turns.{Taken, TellsDrain, TellsDrains, MayTellDrains}
 use Rattle.dmf_solver.specs.Pairs.{Along, IsCarryingSearch, flows_read}
 use Rattle.dmf_state.specs.Flow.{flow_on, flow_on_all}
 use Rattle.dmf_state.specs.Edit.{moved, MovesFit, differences}
@@ -38,13 +36,6 @@ pub record AreDrainingMoves (s : NetworkState) (j limit : ℕ) (moves : List Mov
   pub drains : Drains s.network j limit s.flows (moved moves s.flows)
   pub state : IsState (with_flows s (moved moves s.flows))
   pub takes_off : TakesOff s.network (flow_on s.flows j - limit) s.flows (moved moves s.flows)
-
--- Draining these arcs had this result. The drains were reported, up to the flows after the moves; if memory was refused, they were or
--- nothing was.
-abbrev pub TellsMoves : {E : Type 0} → NetworkState → List Turn → Result Drained E → Option (List Taken) → Option (List Taken) → Type 0
-TellsMoves s turns result before after =
-    MatchResult result (λ drained. TellsDrains s.network turns s.flows (moved drained.moves.items s.flows) before after)
-    (λ _. MayTellDrains s.network turns s.flows before after)
 
 -- If there is a search, it is over the carrying steps of the flow after the moves, with any room of the return link.
 abbrev pub CarriesMoved : NetworkState → Drained → Type 0
@@ -84,11 +75,9 @@ pub record CoverOpen (arcs : List Arc) (v : ℕ) (indices : List ℕ) : Type 0 w
   pub most : length arcs ≤ count
   pub covers : Covers count (IsNotOpenAt arcs v) indices
 
--- The arc whose turn it is is drained in the search, and its own number in the list is 0 then. The drain was reported, and the flows
--- of arcs that do not count as touched stay.
-pub record DrainsNext (s : NetworkState) (turn : Turn) (unpaired : List ℕ) (touched : Option (List ℕ)) (old new : Searched)
-    (before after : Option (List Taken)) : Type 0 where
-  pub carrying : IsCarryingSearch s (slice_set unpaired (turn.arc - 1) 0) new
-  pub drains : TellsDrain s.network turn (flows_read Along unpaired old.pairs) (flows_read Along (slice_set unpaired (turn.arc - 1) 0) new.pairs)
-      before after
-  pub others_stay : UntouchedStay touched (flows_read Along unpaired old.pairs) (flows_read Along (slice_set unpaired (turn.arc - 1) 0) new.pairs)
+-- Arc number `j` is drained to 0 in the search, and its own number in the list is 0 then. The flows of arcs that do not count as
+-- touched stay.
+pub record DrainsNext (s : NetworkState) (j : ℕ) (unpaired : List ℕ) (touched : Option (List ℕ)) (old new : Searched) : Type 0 where
+  pub carrying : IsCarryingSearch s (slice_set unpaired (j - 1) 0) new
+  pub drains : Drains s.network j 0 (flows_read Along unpaired old.pairs) (flows_read Along (slice_set unpaired (j - 1) 0) new.pairs)
+  pub others_stay : UntouchedStay touched (flows_read Along unpaired old.pairs) (flows_read Along (slice_set unpaired (j - 1) 0) new.pairs)

@@ -5,11 +5,10 @@ ghost use Rattle.dmf_state.specs.NetworkState.{IsState};
 ghost use Rattle.dmf_state.specs.Edit.{differences, AreOpenWith};
 ghost use Rattle.dmf_path.specs.Touched.{AreBelow, Touches};
 ghost use Rattle.dmf_solver.specs.CarryingNetwork.{IsCarryingOf};
+ghost use Rattle.dmf_solver.specs.Drain.{Drains};
 ghost use Rattle.dmf_solver.specs.KeptNetwork.{KeepsNetwork};
-ghost use Rattle.dmf_solver.specs.Moves.{AreDrainingMoves, CarriesMoved, TellsMoves, UntouchedStay};
+ghost use Rattle.dmf_solver.specs.Moves.{AreDrainingMoves, CarriesMoved, UntouchedStay};
 ghost use Rattle.dmf_solver.specs.Pairs.{Along, IsCarryingSearch, drained_flows, flows_without, flows_read};
-ghost use Rattle.dmf_solver.specs.Told.{AreTold};
-ghost use Rattle.dmf_solver.specs.Turns.{TellsDrain};
 
 use crate::drained_flows::DrainedFlows;
 use crate::moves::{list_moves, most_touched};
@@ -44,8 +43,6 @@ pub fn drain<W: Watch>(
     ensures moves { IfOk result (λ drained. AreDrainingMoves state.now turn.arc turn.limit drained.moves.items) }
     ensures carrying { IfOk result (CarriesMoved state.now) }
     ensures kept { KeepsNetwork state.now kept.new }
-    ensures told { AreTold (W.told watch.old) (W.told watch.new) [] }
-    ensures drained { TellsMoves state.now (turn ∷ []) result (W.drained watch.old) (W.drained watch.new) }
 {
     let Turn { arc: j, limit, .. } = turn;
     let flow = state.flows()[j as usize - 1];
@@ -114,8 +111,6 @@ fn drain_by<W: Watch>(
     requires carrying { IsCarryingOf state.now carrying }
     ensures moves { IfOk result (λ drained. AreDrainingMoves state.now turn.arc turn.limit drained.moves.items) }
     ensures carrying { IfOk result (CarriesMoved state.now) }
-    ensures told { AreTold (W.told watch.old) (W.told watch.new) [] }
-    ensures drained { TellsMoves state.now (turn ∷ []) result (W.drained watch.old) (W.drained watch.new) }
 {
     let mut touched = carrying.none_touched(alloc, most_touched(state))?;
     drain_along(state, turn, &mut carrying, &mut touched, watch);
@@ -168,9 +163,7 @@ pub fn drain_along<W: Watch>(
     ensures touched { Touches touched.old touched.new search.old.pairs search.new.pairs }
     ensures drains { (unpaired : List ℕ) → IsCarryingSearch state.now unpaired search.old →
         IsCarryingSearch state.now unpaired search.new
-        × TellsDrain state.now.network turn (flows_read Along unpaired search.old.pairs) (flows_read Along unpaired search.new.pairs)
-        (W.drained watch.old) (W.drained watch.new) }
-    ensures told { AreTold (W.told watch.old) (W.told watch.new) [] }
+        × Drains state.now.network turn.arc turn.limit (flows_read Along unpaired search.old.pairs) (flows_read Along unpaired search.new.pairs) }
 {
     let i = turn.arc as usize - 1;
     let mut left = search.along(i).unwrap_or(0).saturating_sub(turn.limit);

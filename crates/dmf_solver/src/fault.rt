@@ -3,6 +3,7 @@ ghost use Rattle.dmf_solver.specs.declared.fault.PlanFault.TheVariants as plan;
 ghost use Rattle.dmf_solver.specs.declared.fault.CutFault.TheVariants as cut;
 ghost use Rattle.dmf_solver.specs.Change.{plan_fault};
 
+use crate::watch::Stopped;
 use dmf_state::{ArcFault, NoMemory};
 use std::alloc::AllocError;
 use thiserror::Error;
@@ -55,6 +56,15 @@ impl From<AllocError> for PlanFault {
     ghost from_gives = { λ _ e. e ≡ plan.NoMemory };
 
     fn from(_error: AllocError) -> PlanFault {
+        PlanFault::NoMemory
+    }
+}
+
+/// A plan whose watch ends it is refused as if memory were: nothing has changed, and the watch knows why.
+impl From<Stopped> for PlanFault {
+    ghost from_gives = { λ _ e. e ≡ plan.NoMemory };
+
+    fn from(_stopped: Stopped) -> PlanFault {
         PlanFault::NoMemory
     }
 }

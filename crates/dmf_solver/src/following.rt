@@ -2,7 +2,7 @@
 ghost use Rattle.std.specs.Prelude.{◌≡◌, ◌+◌, ◌-◌, ◌<◌, ◌≤◌, ℕ, List, length, IfSome};
 ghost use Rattle.dmf_path.specs.Search.{with_pairs};
 ghost use Rattle.dmf_state.specs.Direction.{along, edited_along, FitsAlong};
-ghost use Rattle.dmf_state.specs.Edit.{moved, moves_of, AddsArc, MovesFit};
+ghost use Rattle.dmf_state.specs.Edit.{moved, AddsArc, MovesFit};
 ghost use Rattle.dmf_state.specs.NetworkState.{IsState, with_flows};
 ghost use Rattle.dmf_solver.specs.CarryingNetwork.{MayCarry};
 ghost use Rattle.dmf_solver.specs.Pairs.{with_capacity};
@@ -11,19 +11,6 @@ ghost use Rattle.dmf_solver.specs.ResidualNetwork.{residual_search, IsResidualOf
 use crate::closed_side::SidedSearch;
 use dmf_path::Search;
 use dmf_state::{Direction, Edit, Move, State};
-
-/// The moves of an edit.
-pub fn moves_of(edit: &Edit) -> &[Move]
-    ensures { result.now ≡ moves_of edit.now }
-{
-    match *edit {
-        Edit::Cap { ref moves, .. } => moves,
-        Edit::Close { ref moves, .. } => moves,
-        Edit::Add { .. } => &[],
-        Edit::Shut { ref moves, .. } => moves,
-        Edit::Solve { ref moves } => moves,
-    }
-}
 
 /// Gives the links of each arc that the moves name the rooms for its flow after the moves are made, or reverted.
 pub fn put_flows(search: &mut SidedSearch, state: &State, moves: &[Move], direction: Direction)

@@ -8,8 +8,6 @@ ghost use Rattle.dmf_state.specs.NetworkState.{with_flows};
 ghost use Rattle.dmf_solver.specs.CarryingNetwork.{MayCarry};
 ghost use Rattle.dmf_solver.specs.KeptNetwork.{KeepsNetwork};
 ghost use Rattle.dmf_solver.specs.Planning.{EditTakesOff, IsRefusedFor, IsSideWanted, Plans, PlansSolve};
-ghost use Rattle.dmf_solver.specs.Told.{AreTold, TellsSolve, MayTellSolve};
-ghost use Rattle.dmf_solver.specs.Turns.{TellsPlan};
 
 use crate::drain::drain;
 use crate::fault::PlanFault;
@@ -69,8 +67,6 @@ pub fn plan_cap_watched<W: Watch>(
     ensures kept { IfOk result (λ edit. KeepsNetwork (applied edit state.now) kept.new) }
     ensures kept_if_refused { OnErr result (KeepsNetwork state.now kept.new) }
     ensures same_if_refused { IfErr result (λ fault. fault ≢ PlanFault.NoMemory → kept.new ≡ kept.old) }
-    ensures told { AreTold (W.told watch.old) (W.told watch.new) [] }
-    ensures drained { TellsPlan state.now (Cap wanted.arc wanted.cap) result (W.drained watch.old) (W.drained watch.new) }
 {
     let (arc, old) = open_arc(state, wanted.arc)?;
     let cap = wanted.cap;
@@ -118,8 +114,6 @@ pub fn plan_close_watched<W: Watch>(
     ensures kept { IfOk result (λ edit. KeepsNetwork (applied edit state.now) kept.new) }
     ensures kept_if_refused { OnErr result (KeepsNetwork state.now kept.new) }
     ensures same_if_refused { IfErr result (λ fault. fault ≢ PlanFault.NoMemory → kept.new ≡ kept.old) }
-    ensures told { AreTold (W.told watch.old) (W.told watch.new) [] }
-    ensures drained { TellsPlan state.now (Close j) result (W.drained watch.old) (W.drained watch.new) }
 {
     let (arc, old) = open_arc(state, j)?;
     let drained = drain(alloc, state, Turn::only(arc, 0), kept, watch)?;
@@ -164,8 +158,6 @@ pub fn plan_shut_watched<W: Watch>(
     ensures kept { IfOk result (λ edit. KeepsNetwork (applied edit state.now) kept.new) }
     ensures kept_if_refused { OnErr result (KeepsNetwork state.now kept.new) }
     ensures same_if_refused { IfErr result (λ fault. fault ≢ PlanFault.NoMemory → kept.new ≡ kept.old) }
-    ensures told { AreTold (W.told watch.old) (W.told watch.new) [] }
-    ensures drained { TellsPlan state.now (Shut v) result (W.drained watch.old) (W.drained watch.new) }
 {
     if v < 1 || v > u64::from(state.nodes()) {
         return Err(PlanFault::NoSuchNode);
@@ -243,13 +235,9 @@ pub fn plan_solve_watched<W: Watch>(
     ensures edit { IfOk result (λ planned. PlansSolve state.now planned.0) }
     ensures side { IfOk result (λ planned. IsSideWanted want_side state.now.network planned.1) }
     ensures value { IfOk result (λ planned. IfSome planned.1 (λ side. pos side.capacity ≡ flow_value state.now.network (applied planned.0 state.now).flows)) }
-    ensures told { MatchResult result
-        (λ planned. TellsSolve state.now (applied planned.0 state.now).flows (W.told watch.old) (W.told watch.new))
-        (λ _. MayTellSolve state.now (W.told watch.old) (W.told watch.new)) }
-    ensures drained { AreTold (W.drained watch.old) (W.drained watch.new) [] }
 {
     let search = residual_search(alloc, state)?;
-    let solved = solve(alloc, search, state, Touched::all(), &mut [], None, watch);
+    let solved = solve(alloc, search, state, Touched::all(), &mut [], None, watch)?;
     let side = wanted_side(alloc, state, &solved.search, solved.value, want_side)?;
     let moves = into_moves(alloc, state, solved)?;
     Ok((Edit::Solve { moves }, side))

@@ -14,12 +14,11 @@ ghost use Rattle.dmf_solver.specs.SmallestSide.{TellsSide};
 ghost use Rattle.dmf_path.specs.Pair.{steps_of};
 ghost use Rattle.dmf_path.specs.Path.{HasNoPath};
 ghost use Rattle.dmf_path.specs.Search.{Covers, IsElsewhere, indices_of};
-ghost use Rattle.dmf_solver.specs.Told.{AreTold, TellsSolve, MayTellSolve, Told};
 
 use crate::carrying_pairs::CarryingPairs;
 use crate::closed_side::SidedSearch;
 use crate::fault::{CutFault, PlanFault};
-use crate::following::{carry_flows, moves_of, put_capacities, put_flows};
+use crate::following::{carry_flows, put_capacities, put_flows};
 use crate::moves::{list_moves, most_touched};
 use crate::reached_flows::ReachedFlows;
 use crate::residual::{residual_pair, residual_search};
@@ -86,10 +85,6 @@ impl ResidualNetwork {
         ensures value { IfOk result (λ planned.
             IfSome planned.1 (λ side. pos side.capacity ≡ flow_value state.now.network (applied planned.0 state.now).flows)) }
         ensures kept { IfOk result (λ planned. IsNetworkOf (applied planned.0 state.now) planned.2) }
-        ensures told { MatchResult result
-            (λ planned. TellsSolve state.now (applied planned.0 state.now).flows (W.told watch.old) (W.told watch.new))
-            (λ _. MayTellSolve state.now (W.told watch.old) (W.told watch.new)) }
-        ensures drained { AreTold (W.drained watch.old) (W.drained watch.new) [] }
     {
         if self.search.is_closed() {
             return self.plan_nothing(alloc, state, want_side);
@@ -112,7 +107,6 @@ impl ResidualNetwork {
         ensures value { IfOk result (λ planned.
             IfSome planned.1 (λ side. pos side.capacity ≡ flow_value state.now.network (applied planned.0 state.now).flows)) }
         ensures kept { IfOk result (λ planned. IsNetworkOf (applied planned.0 state.now) planned.2) }
-        ensures told { IfOk result (λ planned. (told : Option (List Told)) → TellsSolve state.now (applied planned.0 state.now).flows told told) }
     {
         let search = self.search.as_search();
         let side = wanted_side(alloc, state, search, state.value(), want_side)?;
@@ -135,10 +129,6 @@ impl ResidualNetwork {
         ensures value { IfOk result (λ planned.
             IfSome planned.1 (λ side. pos side.capacity ≡ flow_value state.now.network (applied planned.0 state.now).flows)) }
         ensures kept { IfOk result (λ planned. IsNetworkOf (applied planned.0 state.now) planned.2) }
-        ensures told { MatchResult result
-            (λ planned. TellsSolve state.now (applied planned.0 state.now).flows (W.told watch.old) (W.told watch.new))
-            (λ _. MayTellSolve state.now (W.told watch.old) (W.told watch.new)) }
-        ensures drained { AreTold (W.drained watch.old) (W.drained watch.new) [] }
     {
         let ResidualNetwork {
             search,
@@ -147,7 +137,7 @@ impl ResidualNetwork {
         } = self;
         let (search, mut marks, known) = search.into_ways_out(alloc, state.nodes());
         let touched = search.none_touched(alloc, most_touched(state))?;
-        let solved = solve(alloc, search, state, touched, &mut marks, known, watch);
+        let solved = solve(alloc, search, state, touched, &mut marks, known, watch)?;
         let side = wanted_side(alloc, state, &solved.search, solved.value, want_side)?;
         let moves = touched_moves(alloc, state, &solved)?;
         let carrying = carry_flows(carrying, state, &moves, Direction::Forward);
@@ -263,7 +253,7 @@ impl ResidualNetwork {
         requires adds_none { ¬ AddsArc edit.now }
         ensures { IsNetworkOf (edited_along direction edit.now state.now) self.new }
     {
-        let moves = moves_of(edit);
+        let moves = edit.moves();
         put_flows(&mut self.search, state, moves, direction);
         put_capacities(&mut self.search, state, edit, direction);
         self.carrying = carry_flows(self.carrying.take(), state, moves, direction);

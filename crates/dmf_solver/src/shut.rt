@@ -8,12 +8,10 @@ ghost use Rattle.dmf_state.specs.Edit.{AreOpenWith, numbers};
 ghost use Rattle.dmf_state.specs.Flow.{flow_on, flow_on_all};
 ghost use Rattle.dmf_path.specs.Search.{indices_of};
 ghost use Rattle.dmf_path.specs.Touched.{Touches};
-ghost use Rattle.dmf_solver.specs.Moves.{AreShuttingMoves, CarriesMoved, CoverOpen, DrainsNext, IsNotOpenAt, IsShuttingAt, TellsMoves};
+ghost use Rattle.dmf_solver.specs.Moves.{AreShuttingMoves, CarriesMoved, CoverOpen, DrainsNext, IsNotOpenAt, IsShuttingAt};
 ghost use Rattle.dmf_state.specs.Network.{has_arc};
 ghost use Rattle.dmf_state.specs.NetworkState.{IsState};
 ghost use Rattle.dmf_solver.specs.Pairs.{IsCarryingSearch};
-ghost use Rattle.dmf_solver.specs.Told.{AreTold};
-ghost use Rattle.dmf_solver.specs.Turns.{turns_to_zero};
 
 use crate::drain::{Drained, drain_along, list_drained, take_carrying};
 use crate::moves::most_touched;
@@ -92,8 +90,6 @@ pub fn drain_all<W: Watch>(
     ensures moves { IfOk result (λ drained. AreShuttingMoves state.now (numbers arcs.now) drained.moves.items) }
     ensures carrying { IfOk result (CarriesMoved state.now) }
     ensures kept { KeepsNetwork state.now kept.new }
-    ensures told { AreTold (W.told watch.old) (W.told watch.new) [] }
-    ensures drained { TellsMoves state.now (turns_to_zero (numbers arcs.now)) result (W.drained watch.old) (W.drained watch.new) }
 {
     if are_without_flow(state, arcs) {
         return Ok(Drained {
@@ -129,8 +125,6 @@ fn drain_all_by<W: Watch>(
     requires carrying { IsCarryingOf state.now search }
     ensures moves { IfOk result (λ drained. AreShuttingMoves state.now (numbers arcs.now) drained.moves.items) }
     ensures carrying { IfOk result (CarriesMoved state.now) }
-    ensures told { AreTold (W.told watch.old) (W.told watch.new) [] }
-    ensures drained { TellsMoves state.now (turns_to_zero (numbers arcs.now)) result (W.drained watch.old) (W.drained watch.new) }
 {
     let mut touched = search.none_touched(alloc, most_touched(state))?;
     for (i, shutting) in arcs.iter().enumerate() {
@@ -172,8 +166,7 @@ fn drain_in_turn<W: Watch>(
     requires carrying { (unpaired : List ℕ) × IsCarryingSearch state.now unpaired search.old }
     ensures touched { Touches touched.old touched.new search.old.pairs search.new.pairs }
     ensures drains { (unpaired : List ℕ) → IsCarryingSearch state.now unpaired search.old → flow_on unpaired turn.arc ≡ flow_on state.now.flows turn.arc →
-        DrainsNext state.now turn unpaired touched.new search.old search.new (W.drained watch.old) (W.drained watch.new) }
-    ensures told { AreTold (W.told watch.old) (W.told watch.new) [] }
+        DrainsNext state.now turn.arc unpaired touched.new search.old search.new }
 {
     let arc = state.arc(turn.arc);
     if arc.tail == arc.head {

@@ -8,13 +8,12 @@ ghost use Rattle.dmf_state.specs.NetworkState.{IsState};
 ghost use Rattle.dmf_solver.specs.Greatest.{IsGreatest, IsSurpassed};
 ghost use Rattle.dmf_solver.specs.Pairs.{reached_flows, HasSolved};
 ghost use Rattle.dmf_solver.specs.ResidualNetwork.{IsResidualOf};
-ghost use Rattle.dmf_solver.specs.Told.{AreTold, TellsSolve};
 ghost use Rattle.dmf_solver.specs.WaysOut.{AreKnown};
 
 use crate::closed_side::ways_out::KnownWays;
 use crate::enclosed::is_enclosed;
 use crate::residual::residual_search;
-use crate::watch::Watch;
+use crate::watch::{Stopped, Watch};
 use dmf_path::{AugmentingPath, Passage, Search, Touched};
 use dmf_state::{NoMemory, State};
 use std::alloc::Global;
@@ -27,8 +26,8 @@ pub struct SolvedSearch {
     pub touched: Touched,
 }
 
-/// Augments the flow of the state along least paths until none is left, and reports each to the watch. Afterwards the pairs of these
-/// paths count as touched. If there is a mark for each node, they are those of a closed side then.
+/// Augments the flow of the state along least paths until none is left, and reports each to the watch, which may end the solve.
+/// Afterwards the pairs of these paths count as touched. If there is a mark for each node, they are those of a closed side then.
 ///
 /// If the ways out of the marked nodes are known, the first paths are looked for from there.
 pub fn solve<W: Watch>(
@@ -39,28 +38,29 @@ pub fn solve<W: Watch>(
     marks: &mut [bool],
     mut known: Option<KnownWays>,
     watch: &mut W,
-) -> SolvedSearch
+) -> Result<SolvedSearch, Stopped>
     requires residual { IsResidualOf state.now search }
     requires ways { IfSome known (AreKnown search marks.old) }
     requires below { AreBelow (length state.now.network.arcs + 1) touched }
-    ensures solved { HasSolved state.now result }
-    ensures told { TellsSolve state.now (reached_flows state.now result.search) (W.told watch.old) (W.told watch.new) }
-    ensures drained { AreTold (W.drained watch.old) (W.drained watch.new) [] }
-    ensures side { length marks.old ≡ result.search.nodes
-        → IsClosedSide (steps_of result.search.pairs) result.search.start result.search.goal marks.new }
+    ensures solved { IfOk result (HasSolved state.now) }
+    ensures side { IfOk result (λ solved. length marks.old ≡ solved.search.nodes
+        → IsClosedSide (steps_of solved.search.pairs) solved.search.start solved.search.goal marks.new) }
     ensures state { IsState state.now }
 {
     let mut value = state.value();
     while let Some(found) = next_path(alloc, &mut search, &mut known, &mut touched, marks) {
         value += found.amount;
         watch.augmented(value, found.links);
+        if !watch.goes_on() {
+            return Err(Stopped);
+        }
     }
     touched.sort();
-    SolvedSearch {
+    Ok(SolvedSearch {
         search,
         value,
         touched,
-    }
+    })
 }
 
 /// Labels the nodes for the next path from the ways out that lead over known gates now.

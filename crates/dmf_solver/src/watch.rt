@@ -1,37 +1,31 @@
-ghost use Rattle.std.specs.Prelude.{◌∷◌, ◌≡◌, List, [], Option, None, pos};
-ghost use Rattle.dmf_solver.specs.Told.{Told, AreTold};
-ghost use Rattle.dmf_solver.specs.Turns.{Taken, only_turn};
+ghost use Rattle.std.specs.Prelude.{◌≡◌};
 
 use dmf_state::State;
 
 /// A watch gets reports of how far a solve or a drain is. A solve reports each augmenting path, in turn, and nothing else; a run also
 /// reports the state from which each solve begins. A drain reports what each path takes off. Whatever a watch does, the result of the
-/// solve or the drain is the same. The contracts of plans and of a session's step say what they report; what a run reports is only
-/// tested.
+/// solve or the drain is the same, except that a watch may end a solve. What is reported is only tested.
 pub trait Watch {
-    // The reports of solves, in order, if they are known. A watch that keeps no record knows none.
-    ghost told: { Self → Option (List Told) } = { λ _. None };
-
-    // The reports of drains, likewise.
-    ghost drained: { Self → Option (List Taken) } = { λ _. None };
-
     /// A run begins to solve this state. This reports no path.
-    fn begun(&mut self, _state: &State)
-        ensures told { AreTold (told self.old) (told self.new) [] }
-        ensures drained { AreTold (drained self.old) (drained self.new) [] }
-    {}
+    fn begun(&mut self, _state: &State) {}
 
     /// The flow was augmented along one more path, of so many links, and now has this value. No path of a solve has fewer links than
     /// the one before; a path with more links begins a phase.
-    fn augmented(&mut self, value: u64, links: u32)
-        ensures told { AreTold (told self.old) (told self.new) (record { value = pos value; links = links } ∷ []) }
-        ensures drained { AreTold (drained self.old) (drained self.new) [] };
+    fn augmented(&mut self, value: u64, links: u32);
+
+    /// Whether a solve may go on, asked after each augmenting path. If it may not, it is refused as if memory were, and only the watch
+    /// knows why.
+    fn goes_on(&mut self) -> bool {
+        true
+    }
 
     /// A path that comes back to the arc whose turn it is took so much flow off it.
-    fn lowered(&mut self, turn: Turn, amount: u64)
-        ensures told { AreTold (told self.old) (told self.new) [] }
-        ensures drained { AreTold (drained self.old) (drained self.new) (record { turn = turn; amount = amount } ∷ []) };
+    fn lowered(&mut self, turn: Turn, amount: u64);
 }
+
+/// A watch has ended a solve.
+#[derive(Clone, Copy)]
+pub struct Stopped;
 
 /// An arc whose turn it is to be drained.
 #[derive(Clone, Copy, Debug)]
@@ -49,7 +43,7 @@ pub struct Turn {
 impl Turn {
     /// The turn of the one arc that a change drains.
     pub(crate) fn only(arc: u32, limit: u64) -> Turn
-        ensures { result ≡ only_turn arc limit }
+        ensures { result ≡ record { arc = arc; limit = limit; place = 1; count = 1 } }
     {
         Turn {
             arc,

@@ -1,14 +1,12 @@
 -- Draining arcs to 0 in turn leaves a flow that is 0 on each of them. Its value is lower by at most the flow that was on them.
-use Rattle.std.proofs.Common.{ℕ, ◌≡◌, ◌+◌, ◌-◌, ◌≤◌, List, [], ◌∷◌, Option, get_or, zero, suc, refl, ◌∙◌, subst, arith}
+use Rattle.std.proofs.Common.{ℕ, ◌≡◌, ◌-◌, ◌≤◌, List, [], ◌∷◌, get_or, zero, suc, refl, ◌∙◌, subst, arith}
 use Rattle.std.proofs.lemmas.Int.{ints}
 use Rattle.std.proofs.lemmas.List.Sums.{sum_by-cons}
 use Rattle.std.proofs.lemmas.Slice.Zip.{AllZip-long}
 use Rattle.dmf_path.specs.Search.{Searched}
 use Rattle.dmf_state.specs.declared.edit.Move.{Move}
 use Rattle.dmf_solver.specs.Pairs.{Along, IsCarryingSearch, flows_read}
-use Rattle.dmf_solver.specs.declared.watch.Turn.{Turn}
-use Rattle.dmf_solver.specs.Drain.{TakesOff}
-use Rattle.dmf_solver.specs.Turns.{Taken, TellsDrain, TellsDrains, turns_from}
+use Rattle.dmf_solver.specs.Drain.{Drains, TakesOff}
 use Rattle.dmf_state.specs.Edit.{differences}
 use Rattle.dmf_state.specs.Flow.{flow_on, flow_on_all}
 use Rattle.dmf_solver.specs.Moves.{DrainsInTurn, AreShuttingMoves}
@@ -17,8 +15,7 @@ use Rattle.dmf_state.specs.NetworkState.{NetworkState, IsState, with_flows}
 use Rattle.dmf_solver.proofs.draining.Draining.{IsNoMore, no_more-in_turn, TakesOff-none, drains-state}
 use Rattle.dmf_state.proofs.ClosedArcs.{HasArcs, AreWithoutFlow}
 use Rattle.dmf_state.proofs.Moving.{moves-between}
-use Rattle.dmf_solver.proofs.draining.DrainingWalk.{tells-none}
-use Rattle.dmf_solver.proofs.solving.Solving.{AreTold-none}
+use Rattle.dmf_solver.proofs.draining.DrainingWalk.{drains-none}
 
 -- No flow is more than before, at each place,
 pub no_more-at : (xs ys : List ℕ) (k : ℕ) → IsNoMore xs ys → get_or ys k 0 ≤ get_or xs k 0
@@ -82,43 +79,28 @@ shutting-moves s js last moves state has drains is =
       takes_off = rw made left.takes_off;
     }
 
--- Reported drains are drains.
-pub drains-told : (n : Network) (place count : ℕ) (js flows last : List ℕ) (before after : Option (List Taken))
-    → TellsDrains n (turns_from place count js) flows last before after → DrainsInTurn n js flows last
-drains-told n place count [] flows last before after tells = tells.0
-drains-told n place count (j ∷ js) flows last before after tells =
-    (tells.0, tells.2.drains, drains-told n (place + 1) count js tells.0 last tells.1 after tells.3)
-
--- Arcs that carry no flow are drained without a report.
-pub tells-none_in_turn : (n : Network) (place count : ℕ) (js flows : List ℕ) (told : Option (List Taken)) → flow_on_all flows js ≡ 0
-    → TellsDrains n (turns_from place count js) flows flows told told
-tells-none_in_turn n place count [] flows told none = (refl, AreTold-none told)
-tells-none_in_turn n place count (j ∷ js) flows told none =
+-- Arcs that carry no flow are drained without a path.
+pub drains-none_in_turn : (n : Network) (js flows : List ℕ) → flow_on_all flows js ≡ 0 → DrainsInTurn n js flows flows
+drains-none_in_turn n [] flows none = refl
+drains-none_in_turn n (j ∷ js) flows none =
     let sum = sum_by-cons (flow_on flows) j js in
-    let turn : Turn = record { arc = j; limit = 0; place = place; count = count } in
-    (flows, told, tells-none n turn flows told (omega (arith, none, sum)), tells-none_in_turn n (place + 1) count js flows told (omega (arith, none, sum)))
+    (flows, drains-none n j 0 flows (omega (arith, none, sum)), drains-none_in_turn n js flows (omega (arith, none, sum)))
 
--- The flows of the search and the reports so far: draining the remaining arcs from them gives what draining all arcs gives from the
--- state's flow.
-pub record AreDrainedUpTo (s : NetworkState) (all left : List Turn) (unpaired : List ℕ) (search : Searched) (before now : Option (List Taken))
-    : Type 0 where
+-- The flows of the search so far: draining the remaining arcs from them gives what draining all arcs gives from the state's flow.
+pub record AreDrainedUpTo (s : NetworkState) (all left unpaired : List ℕ) (search : Searched) : Type 0 where
   pub carrying : IsCarryingSearch s unpaired search
-  pub onward : (last : List ℕ) (after : Option (List Taken))
-      → TellsDrains s.network left (flows_read Along unpaired search.pairs) last now after → TellsDrains s.network all s.flows last before after
+  pub onward : (last : List ℕ) → DrainsInTurn s.network left (flows_read Along unpaired search.pairs) last → DrainsInTurn s.network all s.flows last
 
 -- After the drain of the next arc, one arc less is left.
-pub drained-next_arc : (s : NetworkState) (all left : List Turn) (unpaired next_unpaired : List ℕ) (turn : Turn) (rest : List Turn)
-    (search next : Searched) (before now after : Option (List Taken)) → left ≡ turn ∷ rest → IsCarryingSearch s next_unpaired next
-    → TellsDrain s.network turn (flows_read Along unpaired search.pairs) (flows_read Along next_unpaired next.pairs) now after
-    → AreDrainedUpTo s all left unpaired search before now → AreDrainedUpTo s all rest next_unpaired next before after
-drained-next_arc s all left unpaired next_unpaired turn rest search next before now after is carrying drains up_to = record {
+pub drained-next_arc : (s : NetworkState) (all left unpaired next_unpaired : List ℕ) (j : ℕ) (rest : List ℕ) (search next : Searched) → left ≡ j ∷ rest
+    → IsCarryingSearch s next_unpaired next → Drains s.network j 0 (flows_read Along unpaired search.pairs) (flows_read Along next_unpaired next.pairs)
+    → AreDrainedUpTo s all left unpaired search → AreDrainedUpTo s all rest next_unpaired next
+drained-next_arc s all left unpaired next_unpaired j rest search next is carrying drains up_to = record {
   carrying = carrying;
-  onward = λ last end more. up_to.onward last end (rw is (flows_read Along next_unpaired next.pairs, after, drains, more));
+  onward = λ last more. up_to.onward last (rw is (flows_read Along next_unpaired next.pairs, drains, more));
 }
 
 -- Once none is left, all were drained in turn.
-pub drained-every_arc : (s : NetworkState) (all left : List Turn) (unpaired : List ℕ) (search : Searched) (before now : Option (List Taken))
-    → left ≡ [] → AreDrainedUpTo s all left unpaired search before now
-    → TellsDrains s.network all s.flows (flows_read Along unpaired search.pairs) before now
-drained-every_arc s all left unpaired search before now none up_to =
-    up_to.onward (flows_read Along unpaired search.pairs) now (rw none (refl, AreTold-none now))
+pub drained-every_arc : (s : NetworkState) (all left unpaired : List ℕ) (search : Searched) → left ≡ [] → AreDrainedUpTo s all left unpaired search
+    → DrainsInTurn s.network all s.flows (flows_read Along unpaired search.pairs)
+drained-every_arc s all left unpaired search none up_to = up_to.onward (flows_read Along unpaired search.pairs) (rw none refl)

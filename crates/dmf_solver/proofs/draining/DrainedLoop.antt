@@ -1,14 +1,11 @@
 -- Draining a self loop: one step takes off all flow above the limit.
-use Rattle.std.proofs.Common.{ℕ, ◌≡◌, ◌-◌, ◌<◌, List, [], ◌∷◌, length, set, true, ap, sym, ◌∙◌, arith, Option, get_or-set_same}
+use Rattle.std.proofs.Common.{ℕ, ◌≡◌, ◌-◌, ◌<◌, List, [], ◌∷◌, length, set, true, ap, sym, ◌∙◌, arith, get_or-set_same}
 use Rattle.std.proofs.lemmas.Slice.Zip.{AllZip-long}
 use Rattle.dmf_path.specs.Step.{Step}
 use Rattle.dmf_path.specs.Path.{ComesBefore, ranks, IsLeastPath}
 use Rattle.dmf_state.specs.Network.{Network, arc_number, has_arc}
 use Rattle.dmf_state.specs.Flow.{flow_on, IsFlow}
-use Rattle.dmf_solver.specs.declared.watch.Turn.{Turn}
 use Rattle.dmf_solver.specs.Drain.{carrying_steps, Drains}
-use Rattle.dmf_solver.specs.Told.{AreTold}
-use Rattle.dmf_solver.specs.Turns.{Taken, TellsDrain}
 use Rattle.dmf_state.proofs.ChangedArc.{has_arc-within}
 use Rattle.dmf_solver.proofs.draining.Lowering.{lowered-none}
 
@@ -41,11 +38,3 @@ drained-loop n j limit flows has flow loop above =
       );
       within = omega (arith, get_or-set_same flows (j - 1) limit 0 within);
     }
-
--- That is reported as one path.
-pub tells-loop : (n : Network) (turn : Turn) (flows : List ℕ) (before after : Option (List Taken)) → has_arc n turn.arc ≡ true → IsFlow n flows
-    → (arc_number n turn.arc).tail ≡ (arc_number n turn.arc).head → turn.limit < flow_on flows turn.arc
-    → AreTold before after (record { turn = turn; amount = flow_on flows turn.arc - turn.limit } ∷ [])
-    → TellsDrain n turn flows (set flows (turn.arc - 1) turn.limit) before after
-tells-loop n turn flows before after has flow loop above told =
-    record { drains = drained-loop n turn.arc turn.limit flows has flow loop above; told = told }

@@ -21,9 +21,7 @@ use Rattle.dmf_state.specs.declared.edit.Move.{Move}
 use Rattle.dmf_state.specs.Edit.{moved, differences}
 use Rattle.dmf_state.proofs.Moving.{moves-between}
 use Rattle.dmf_solver.specs.declared.watch.Turn.{Turn}
-use Rattle.dmf_solver.specs.Drain.{carrying_steps, lowered, value_or_zero}
-use Rattle.dmf_solver.specs.Told.{AreTold}
-use Rattle.dmf_solver.specs.Turns.{Taken, TellsDrain}
+use Rattle.dmf_solver.specs.Drain.{Drains, carrying_steps, lowered, value_or_zero}
 use Rattle.dmf_state.specs.NetworkState.{NetworkState, IsState, with_flows}
 use Rattle.dmf_solver.specs.CarryingNetwork.{IsCarryingOf, MayCarry, carrying_pair, return_pair, carrying_pairs}
 use Rattle.dmf_solver.specs.Pairs.{Along, KeepLoops, Carries, IsCarryingSearch, flows_read}
@@ -153,23 +151,22 @@ carries-moved s unpaired moves search state carries listed =
 
 -- ---- draining
 
--- Draining from `first` has reached the flows of the search, with these reports, and `left` is the flow on the arc above the limit.
-pub record IsDraining (s : NetworkState) (unpaired first : List ℕ) (turn : Turn) (left : ℕ) (search : Searched) (before now : Option (List Taken))
-    : Type 0 where
+-- Draining from `first` has reached the flows of the search, and `left` is the flow on the arc above the limit.
+pub record IsDraining (s : NetworkState) (unpaired first : List ℕ) (turn : Turn) (left : ℕ) (search : Searched) : Type 0 where
   pub flows : List ℕ
-  pub so_far : AreDrainedSoFar (with_flows s first) turn flows before now
+  pub so_far : AreDrainedSoFar (with_flows s first) turn.arc turn.limit flows
   pub listed : length unpaired ≡ length s.network.arcs
   pub loops : KeepLoops s.network unpaired flows
   pub search_is : search ≡ carrying_search s.network turn.arc flows
   pub left_is : left ≡ flow_on flows turn.arc - turn.limit
 
 -- no path yet
-pub draining-begun : (s : NetworkState) (unpaired first : List ℕ) (turn : Turn) (left : ℕ) (search : Searched) (told : Option (List Taken))
+pub draining-begun : (s : NetworkState) (unpaired first : List ℕ) (turn : Turn) (left : ℕ) (search : Searched)
     → left ≡ flow_on first turn.arc - turn.limit → Carries s unpaired first search
-    → IsDraining s unpaired first turn left (aimed search (arc_number s.network turn.arc).head (arc_number s.network turn.arc).tail) told told
-draining-begun s unpaired first turn left search told left_is carries = record {
+    → IsDraining s unpaired first turn left (aimed search (arc_number s.network turn.arc).head (arc_number s.network turn.arc).tail)
+draining-begun s unpaired first turn left search left_is carries = record {
   flows = first;
-  so_far = drained-none (with_flows s first) turn told carries.state;
+  so_far = drained-none (with_flows s first) turn.arc turn.limit carries.state;
   listed = carries.listed;
   loops = carries.loops;
   search_is = λ i. record {
@@ -182,8 +179,8 @@ draining-begun s unpaired first turn left search told left_is carries = record {
   left_is = left_is;
 }
 
-module _ (s : NetworkState) (unpaired first : List ℕ) (turn : Turn) (left : ℕ) (search : Searched) (before now : Option (List Taken))
-    (draining : IsDraining s unpaired first turn left search before now) where
+module _ (s : NetworkState) (unpaired first : List ℕ) (turn : Turn) (left : ℕ) (search : Searched)
+    (draining : IsDraining s unpaired first turn left search) where
   -- A path is left while more than the limit flows on the arc.
   pub draining-has_path : has_arc s.network turn.arc ≡ true → 0 < left → ¬ HasNoPath (steps_of search.pairs) search.start search.goal
   draining-has_path has some none =
@@ -206,7 +203,7 @@ module _ (s : NetworkState) (unpaired first : List ℕ) (turn : Turn) (left : �
 
   -- If nothing is left above the limit, the arc is drained, and the search carries the flow that draining gives.
   pub draining-done : left ≤ 0
-      → IsCarryingSearch s unpaired search × TellsDrain s.network turn first (flows_read Along unpaired search.pairs) before now
+      → IsCarryingSearch s unpaired search × Drains s.network turn.arc turn.limit first (flows_read Along unpaired search.pairs)
   draining-done done =
       let flows : List ℕ = draining.flows in
       let carries : Carries s unpaired flows search = record {
@@ -220,26 +217,23 @@ module _ (s : NetworkState) (unpaired first : List ℕ) (turn : Turn) (left : �
         };
       } in (
         IsCarryingSearch-from s unpaired flows search carries,
-        subst (λ last. TellsDrain s.network turn first last before now) (sym (carries-read s unpaired flows search carries))
-            (drained-all (with_flows s first) turn flows before now (omega (arith, done, draining.left_is)) draining.so_far),
+        subst (Drains s.network turn.arc turn.limit first) (sym (carries-read s unpaired flows search carries))
+            (drained-all (with_flows s first) turn.arc turn.limit flows (omega (arith, done, draining.left_is)) draining.so_far),
       )
 
--- One more path: its amount is positive and at most `left`, and the arc's link has room for it. It is reported next.
-pub record DrainsOnce (s : NetworkState) (unpaired first : List ℕ) (turn : Turn) (left amount : ℕ) (next : Searched) (before now : Option (List Taken))
-    : Type 0 where
+-- One more path: its amount is positive and at most `left`, and the arc's link has room for it.
+pub record DrainsOnce (s : NetworkState) (unpaired first : List ℕ) (turn : Turn) (left amount : ℕ) (next : Searched) : Type 0 where
   pub some : 0 < amount
   pub within : amount ≤ left
   pub room : HasAlong next.pairs (turn.arc - 1) amount
-  pub draining : (after : Option (List Taken)) → AreTold now after (record { turn = turn; amount = amount } ∷ [])
-      → IsDraining s unpaired first turn (left - amount) (with_pairs next (lowered_along next.pairs (turn.arc - 1) amount)) before after
+  pub draining : IsDraining s unpaired first turn (left - amount) (with_pairs next (lowered_along next.pairs (turn.arc - 1) amount))
 
 -- One path more drains the arc further.
 pub draining-once : (s : NetworkState) (unpaired first : List ℕ) (turn : Turn) (left : ℕ) (found : AugmentingPath) (search next : Searched)
-    (before now : Option (List Taken)) → has_arc s.network turn.arc ≡ true
+    → has_arc s.network turn.arc ≡ true
     → (arc_number s.network turn.arc).tail ≢ (arc_number s.network turn.arc).head → 0 < left
-    → IsDraining s unpaired first turn left search before now → Augments left found search next
-    → DrainsOnce s unpaired first turn left found.amount next before now
-draining-once s unpaired first turn left found search next before now has apart some draining augments =
+    → IsDraining s unpaired first turn left search → Augments left found search next → DrainsOnce s unpaired first turn left found.amount next
+draining-once s unpaired first turn left found search next has apart some draining augments =
     let amount : ℕ = found.amount in
     let j : ℕ = turn.arc in
     let limit : ℕ = turn.limit in
@@ -265,10 +259,9 @@ draining-once s unpaired first turn left found search next before now has apart 
       some = omega (arith, is, told.0);
       within = omega (arith, is, told.1, draining.left_is);
       room = subst (λ pairs. HasAlong pairs (j - 1) amount) (sym (ap (λ (x : Searched). x.pairs) own.gives)) along;
-      draining = λ after reported. record {
+      draining = record {
         flows = lowered j limit path flows;
-        so_far = drained-more (with_flows s first) turn flows path before now after can
-            (subst (λ m. AreTold now after (record { turn = turn; amount = m } ∷ [])) is reported) draining.so_far;
+        so_far = drained-more (with_flows s first) j limit flows path can draining.so_far;
         listed = draining.listed;
         loops = KeepLoops-lowered n unpaired flows j limit path apart state.flow own.least.leads draining.loops;
         search_is =

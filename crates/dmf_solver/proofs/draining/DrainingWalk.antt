@@ -1,7 +1,6 @@
 -- Draining path by path, and its moves.
-use Rattle.std.proofs.Common.{ℕ, ◌≡◌, ◌≢◌, ◌<◌, ◌≤◌, true, ◌+◌, ◌-◌, zero, suc, List, [], ◌∷◌, length, get_or, set, refl, ap, sym, ◌∙◌, subst, arith, Option, Result, Ok, Err, IfOk, inr, eq-eqb}
+use Rattle.std.proofs.Common.{ℕ, ◌≡◌, ◌≢◌, ◌<◌, ◌≤◌, true, ◌+◌, ◌-◌, zero, suc, List, [], ◌∷◌, length, get_or, set, refl, ap, sym, ◌∙◌, arith, eq-eqb}
 use Rattle.std.proofs.lemmas.Bool.{ne_eqb}
-use Rattle.std.proofs.lemmas.List.{length-set}
 use Rattle.std.proofs.lemmas.Slice.Zip.{AllZip-long}
 use Rattle.dmf_state.specs.declared.edit.Move.{Move}
 use Rattle.dmf_path.specs.Step.{Step}
@@ -9,67 +8,43 @@ use Rattle.dmf_state.specs.Network.{Network, arc_number, has_arc}
 use Rattle.dmf_state.specs.Flow.{flow_on}
 use Rattle.dmf_state.specs.NetworkState.{NetworkState, IsState, with_flows}
 use Rattle.dmf_solver.specs.Drain.{lowered, Drains}
-use Rattle.dmf_solver.specs.declared.drain.Drained.{Drained}
-use Rattle.dmf_solver.specs.declared.watch.Turn.{Turn}
-use Rattle.dmf_solver.specs.Turns.{Taken, TellsDrain, TellsDrains, taken_of}
-use Rattle.dmf_solver.specs.Told.{AreTold}
-use Rattle.dmf_state.specs.Edit.{moved, differences}
-use Rattle.dmf_solver.specs.Moves.{AreDrainingMoves, TellsMoves}
+use Rattle.dmf_state.specs.Edit.{differences}
+use Rattle.dmf_solver.specs.Moves.{AreDrainingMoves}
 use Rattle.dmf_state.proofs.ChangedArc.{has_arc-within}
-use Rattle.dmf_solver.proofs.draining.DrainedLoop.{drained-loop, tells-loop}
+use Rattle.dmf_solver.proofs.draining.DrainedLoop.{drained-loop}
 use Rattle.dmf_solver.proofs.draining.Draining.{lowered-state, drains-state}
 use Rattle.dmf_state.proofs.Moving.{moves-between}
 use Rattle.dmf_solver.proofs.draining.Lowering.{CanLower}
-use Rattle.dmf_solver.proofs.solving.Solving.{AreTold-none, AreTold-trans}
 
--- The flows are those of a state. Draining the arc from them and reporting that, after the reports so far, drains it from the flows of
--- `s` and reports that.
-pub record AreDrainedSoFar (s : NetworkState) (turn : Turn) (flows : List ℕ) (before now : Option (List Taken)) : Type 0 where
+-- The flows are those of a state, and draining the arc from them drains it from the flows of `s`.
+pub record AreDrainedSoFar (s : NetworkState) (j limit : ℕ) (flows : List ℕ) : Type 0 where
   pub state : IsState (with_flows s flows)
-  pub onward : (last : List ℕ) (after : Option (List Taken)) → TellsDrain s.network turn flows last now after
-      → TellsDrain s.network turn s.flows last before after
+  pub onward : (last : List ℕ) → Drains s.network j limit flows last → Drains s.network j limit s.flows last
 
 -- no path yet
-pub drained-none : (s : NetworkState) (turn : Turn) (told : Option (List Taken)) → IsState s → AreDrainedSoFar s turn s.flows told told
-drained-none s turn told state = record { state = state; onward = λ last after tells. tells }
+pub drained-none : (s : NetworkState) (j limit : ℕ) → IsState s → AreDrainedSoFar s j limit s.flows
+drained-none s j limit state = record { state = state; onward = λ last drains. drains }
 
 -- one more path
-pub drained-more : (s : NetworkState) (turn : Turn) (flows : List ℕ) (path : List Step) (before now next : Option (List Taken))
-    → CanLower s.network turn.arc turn.limit flows path → AreTold now next (taken_of turn flows (path ∷ []))
-    → AreDrainedSoFar s turn flows before now
-    → AreDrainedSoFar s turn (lowered turn.arc turn.limit path flows) before next
-drained-more s turn flows path before now next can told so_far = record {
-  state = lowered-state s turn.arc turn.limit flows path so_far.state can;
-  onward = λ last after tells. so_far.onward last after (record {
-    drains = record { paths = path ∷ tells.drains.paths; lowers = (can.above, can.least, tells.drains.lowers); within = tells.drains.within };
-    told = AreTold-trans now next after (taken_of turn flows (path ∷ []))
-        (taken_of turn (lowered turn.arc turn.limit path flows) tells.drains.paths) told tells.told;
+pub drained-more : (s : NetworkState) (j limit : ℕ) (flows : List ℕ) (path : List Step) → CanLower s.network j limit flows path
+    → AreDrainedSoFar s j limit flows → AreDrainedSoFar s j limit (lowered j limit path flows)
+drained-more s j limit flows path can so_far = record {
+  state = lowered-state s j limit flows path so_far.state can;
+  onward = λ last drains. so_far.onward last (record {
+    paths = path ∷ drains.paths;
+    lowers = (can.above, can.least, drains.lowers);
+    within = drains.within;
   });
 }
 
 -- If no more than the limit flows on the arc, it is drained without a path.
-pub tells-none : (n : Network) (turn : Turn) (flows : List ℕ) (told : Option (List Taken)) → flow_on flows turn.arc ≤ turn.limit
-    → TellsDrain n turn flows flows told told
-tells-none n turn flows told within = record { drains = record { paths = []; lowers = refl; within = within }; told = AreTold-none told }
+pub drains-none : (n : Network) (j limit : ℕ) (flows : List ℕ) → flow_on flows j ≤ limit → Drains n j limit flows flows
+drains-none n j limit flows within = record { paths = []; lowers = refl; within = within }
 
 -- It is then drained so far.
-pub drained-all : (s : NetworkState) (turn : Turn) (flows : List ℕ) (before now : Option (List Taken)) → flow_on flows turn.arc ≤ turn.limit
-    → AreDrainedSoFar s turn flows before now → TellsDrain s.network turn s.flows flows before now
-drained-all s turn flows before now within so_far = so_far.onward flows now (tells-none s.network turn flows now within)
-
--- A drain that was reported leads to the flows after its moves.
-pub tells-moved : (s : NetworkState) (turns : List Turn) (last : List ℕ) (moves : List Move) (before after : Option (List Taken))
-    → length last ≡ length s.flows → moves ≡ differences 1 s.flows last → TellsDrains s.network turns s.flows last before after
-    → TellsDrains s.network turns s.flows (moved moves s.flows) before after
-tells-moved s turns last moves before after long is tells =
-    subst (λ flows. TellsDrains s.network turns s.flows flows before after) (sym (moves-between moves s.flows last long is).makes) tells
-
--- So it does if memory is refused for the moves.
-pub tells-listed : {E : Type 0} (s : NetworkState) (turns : List Turn) (last : List ℕ) (result : Result Drained E) (before after : Option (List Taken))
-    → length last ≡ length s.flows → IfOk result (λ drained. drained.moves.items ≡ differences 1 s.flows last)
-    → TellsDrains s.network turns s.flows last before after → TellsMoves s turns result before after
-tells-listed s turns last (Ok drained) before after long is tells = tells-moved s turns last drained.moves.items before after long is tells
-tells-listed s turns last (Err fault) before after long is tells = inr (last, tells)
+pub drained-all : (s : NetworkState) (j limit : ℕ) (flows : List ℕ) → flow_on flows j ≤ limit → AreDrainedSoFar s j limit flows
+    → Drains s.network j limit s.flows flows
+drained-all s j limit flows within so_far = so_far.onward flows (drains-none s.network j limit flows within)
 
 -- It holds for the moves between the flows before and after draining.
 pub draining-moves : (s : NetworkState) (j limit : ℕ) (last : List ℕ) (moves : List Move) → IsState s → has_arc s.network j ≡ true
@@ -94,7 +69,7 @@ differences-none j (x ∷ flows) = rw (eq-eqb x x refl) (differences-none (j + 1
 -- If no more than the limit flows on the arc, it holds for no moves.
 pub draining-none : (s : NetworkState) (j limit : ℕ) → IsState s → has_arc s.network j ≡ true → flow_on s.flows j ≤ limit → AreDrainingMoves s j limit []
 draining-none s j limit state has within =
-    draining-moves s j limit s.flows [] state has (record { paths = []; lowers = refl; within = within }) (sym (differences-none 1 s.flows))
+    draining-moves s j limit s.flows [] state has (drains-none s.network j limit s.flows within) (sym (differences-none 1 s.flows))
 
 -- If the flow of one arc differs, there is one move.
 differences-set : (i k arc y : ℕ) (flows : List ℕ) → arc ≡ i + k → k < length flows → get_or flows k 0 ≢ y
@@ -116,24 +91,10 @@ loop-listed s j flow limit moves state has on above is =
     let differ : get_or s.flows (j - 1) 0 ≢ limit = λ e. omega (arith, e, on, above) in
     is ∙ ap (λ x. record { arc = j; from = x; to = limit } ∷ []) on ∙ sym (differences-set 1 (j - 1) j limit s.flows place within differ)
 
--- so it holds for this move,
+-- so it holds for this move.
 pub draining-loop : (s : NetworkState) (j flow limit : ℕ) (moves : List Move) → IsState s → has_arc s.network j ≡ true
     → (arc_number s.network j).tail ≡ (arc_number s.network j).head → flow ≡ flow_on s.flows j → limit < flow
     → moves ≡ record { arc = j; from = flow; to = limit } ∷ [] → AreDrainingMoves s j limit moves
 draining-loop s j flow limit moves state has loop on above is =
     draining-moves s j limit (set s.flows (j - 1) limit) moves state has
     (drained-loop s.network j limit s.flows has state.flow loop (omega (arith, on, above))) (loop-listed s j flow limit moves state has on above is)
-
--- which is reported as one path.
-pub telling-loop : (s : NetworkState) (turn : Turn) (flow : ℕ) (moves : List Move) (before after : Option (List Taken)) → IsState s
-    → has_arc s.network turn.arc ≡ true → (arc_number s.network turn.arc).tail ≡ (arc_number s.network turn.arc).head
-    → flow ≡ flow_on s.flows turn.arc → turn.limit < flow → moves ≡ record { arc = turn.arc; from = flow; to = turn.limit } ∷ []
-    → AreTold before after (record { turn = turn; amount = flow - turn.limit } ∷ [])
-    → TellsDrains s.network (turn ∷ []) s.flows (moved moves s.flows) before after
-telling-loop s turn flow moves before after state has loop on above is told =
-    let last : List ℕ = set s.flows (turn.arc - 1) turn.limit in
-    let reported : AreTold before after (record { turn = turn; amount = flow_on s.flows turn.arc - turn.limit } ∷ []) =
-    subst (λ x. AreTold before after (record { turn = turn; amount = x - turn.limit } ∷ [])) on told in
-    tells-moved s (turn ∷ []) last moves before after (length-set s.flows (turn.arc - 1) turn.limit)
-    (loop-listed s turn.arc flow turn.limit moves state has on above is)
-    (last, after, tells-loop s.network turn s.flows before after has state.flow loop (omega (arith, on, above)) reported, (refl, AreTold-none after))

@@ -1,5 +1,5 @@
 -- No path is left: solving moves nothing.
-use Rattle.std.proofs.Common.{ℕ, ◌≡◌, List, [], refl, ap, sym, subst, arith, pos, Option, Some}
+use Rattle.std.proofs.Common.{ℕ, ◌≡◌, [], refl, ap, sym, subst, arith, pos, Some}
 use Rattle.dmf_path.specs.Pair.{steps_of}
 use Rattle.dmf_path.specs.Path.{HasNoPath}
 use Rattle.dmf_path.specs.Search.{Searched}
@@ -9,10 +9,8 @@ use Rattle.dmf_state.specs.Flow.{flow_value}
 use Rattle.dmf_state.specs.NetworkState.{NetworkState, IsState}
 use Rattle.dmf_solver.specs.Pairs.{reached_flows, IsAtEnd, HasSolved}
 use Rattle.dmf_solver.specs.ResidualNetwork.{IsResidualOf}
-use Rattle.dmf_solver.specs.Told.{Told, TellsSolve}
 use Rattle.dmf_solver.proofs.draining.DrainingWalk.{differences-none}
-use Rattle.dmf_solver.proofs.solving.Solving.{AreTold-none}
-use Rattle.dmf_solver.proofs.solving.SolvingSearch.{IsSolving, solving-done, solving-read, solving-told}
+use Rattle.dmf_solver.proofs.solving.SolvingSearch.{IsSolving, solving-done, solving-read}
 use Rattle.dmf_solver.proofs.pairs.Untouched.{keeps-same}
 
 module _ (s : NetworkState) (search : Searched) (value : ℕ) (state : IsState s) (is : IsResidualOf s search)
@@ -38,10 +36,6 @@ module _ (s : NetworkState) (search : Searched) (value : ℕ) (state : IsState s
 
   pub end-at_once : IsAtEnd s search value
   end-at_once = (Some [], solved-at_once)
-
-  -- no path was reported,
-  pub told-at_once : (told : Option (List Told)) → TellsSolve s (reached_flows s search) told told
-  told-at_once told = solving-told s value search search state solving none refl told told (AreTold-none told)
 
   -- and no flow differs.
   pub listed-at_once : [] ≡ differences 1 s.flows (reached_flows s search)

@@ -1,5 +1,5 @@
 -- The edit of a solve: its moves name the arcs whose flow differs in what the search has reached.
-use Rattle.std.proofs.Common.{◌≡◌, ◌∙◌, List, Option, IfSome, Vec, Global, ap, pos, refl, subst, sym}
+use Rattle.std.proofs.Common.{◌≡◌, ◌∙◌, Option, IfSome, Vec, Global, ap, pos, refl, subst, sym}
 use Rattle.dmf_solver.specs.declared.solve.SolvedSearch.{SolvedSearch}
 use Rattle.dmf_state.specs.declared.edit.Move.{Move}
 use Rattle.dmf_state.specs.declared.edit.Edit.TheVariants as edit
@@ -13,7 +13,6 @@ use Rattle.dmf_solver.specs.Pairs.{HasSolved, reached_flows}
 use Rattle.dmf_solver.specs.Planning.{PlansSolve}
 use Rattle.dmf_solver.specs.ResidualNetwork.{IsResidualOf, residual_search}
 use Rattle.dmf_solver.specs.Solve.{Solves}
-use Rattle.dmf_solver.specs.Told.{Told, TellsSolve}
 use Rattle.dmf_solver.proofs.cuts.GreatestFlow.{greatest-from_no_path, cut-from_no_path}
 use Rattle.dmf_state.proofs.Moving.{AreMovesBetween, moves-between, flows-long}
 
@@ -47,11 +46,6 @@ module _ (s : NetworkState) (solved : SolvedSearch) (moves : Vec Move Global) (s
   pub value-listed : (side : Option CutSide) → IfSome side (λ side. pos side.capacity ≡ flow_value s.network (reached_flows s solved.search))
       → IfSome side (λ side. pos side.capacity ≡ flow_value s.network (applied (edit.Solve moves) s).flows)
   value-listed side is = subst (λ flows. IfSome side (λ side. pos side.capacity ≡ flow_value s.network flows)) (sym flows-listed) is
-
-  -- the watch got the search's report,
-  pub told-listed : (before after : Option (List Told)) → TellsSolve s (reached_flows s solved.search) before after
-      → TellsSolve s (applied (edit.Solve moves) s).flows before after
-  told-listed before after tells = subst (λ flows. TellsSolve s flows before after) (sym flows-listed) tells
 
   -- and the search has the links of the residual network.
   pub residual-listed : IsResidualOf (applied (edit.Solve moves) s) solved.search

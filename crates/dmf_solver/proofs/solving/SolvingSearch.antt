@@ -1,5 +1,5 @@
 -- Solving by a search among the residual pairs: what the search keeps as it augments, and the flow that it has at the end.
-use Rattle.std.proofs.Common.{ℕ, ◌≡◌, ◌+◌, ◌-◌, ◌*◌, ◌^◌, ◌<◌, ◌≤◌, true, min, List, [], ◌∷◌, ◌++◌, length, get_or, refl, ap}
+use Rattle.std.proofs.Common.{ℕ, ◌≡◌, ◌+◌, ◌-◌, ◌*◌, ◌^◌, ◌<◌, ◌≤◌, true, min, List, [], ◌∷◌, length, get_or, refl, ap}
 use Rattle.std.proofs.Common.{sym, ◌∙◌, subst, arith, pos, Option}
 use Rattle.std.specs.List.Sorted.{IsStrictlyIncreasing}
 use Rattle.std.specs.Option.{IfSome}
@@ -21,7 +21,6 @@ use Rattle.dmf_state.specs.Flow.{AreWithinCapacities, IsFlow, flow_value}
 use Rattle.dmf_state.specs.NetworkState.{NetworkState, IsState, with_flows}
 use Rattle.dmf_solver.specs.Residual.{residual_steps, augmented}
 use Rattle.dmf_solver.specs.Solve.{Solves}
-use Rattle.dmf_solver.specs.Told.{Told, told_of, AreTold, TellsSolve}
 use Rattle.dmf_solver.specs.ResidualNetwork.{closed_return, network_pairs, residual_search}
 use Rattle.dmf_solver.specs.Pairs.{Against, KeepLoops, reached_flows, HasSolved}
 use Rattle.dmf_solver.proofs.solving.Augmenting.{augmented-value, value-le-capacities}
@@ -33,7 +32,7 @@ use Rattle.dmf_solver.proofs.pairs.ResidualPairs.{by_residual_pair}
 use Rattle.dmf_state.proofs.Changing.{within-at}
 use Rattle.dmf_solver.proofs.solving.ResidualSteps.{along, against, residual-contained}
 use Rattle.dmf_solver.proofs.solving.RoomLeaving.{room_leaving, room_leaving-falls}
-use Rattle.dmf_solver.proofs.solving.Solving.{IsReached, reached-more, told_of-push}
+use Rattle.dmf_solver.proofs.solving.Solving.{IsReached, reached-more}
 
 -- Augmenting keeps the flow on self loops.
 kept-augmented : (n : Network) (firsts flows : List ℕ) (path : List Step) → AreWithinCapacities n.arcs flows
@@ -82,17 +81,15 @@ solving-long s search value is =
     ap (λ (o : Searched). length o.pairs) is.search_is
     ∙ length-network_pairs s.network is.flows (AllZip-long _ s.network.arcs is.flows is.reached.state.flow.within)
 
--- The search augments. The value grows by the amount, the report gets this value and the number of links, and the rooms of the links
--- that leave the source fall.
-pub record IsNext (s : NetworkState) (before : List (List Step)) (links : ℕ) (old new : Searched) (value : ℕ) : Type 0 where
+-- The search augments. The value grows by the amount, and the rooms of the links that leave the source fall.
+pub record IsNext (s : NetworkState) (old new : Searched) (value : ℕ) : Type 0 where
   pub solving : IsSolving s new value
-  pub told : told_of s.network s.flows solving.reached.paths ≡ told_of s.network s.flows before ++ record { value = pos value; links = links } ∷ []
   pub small : value < 2 ^ 64
   pub falls : room_leaving new.pairs s.network.source < room_leaving old.pairs s.network.source
 
 -- one more path
-pub solving-more : (s : NetworkState) (limit value : ℕ) (found : AugmentingPath) (old new : Searched) → limit + 1 ≡ 2 ^ 64 → (is : IsSolving s old value)
-    → Augments limit found old new → IsNext s is.reached.paths found.links old new (value + found.amount)
+pub solving-more : (s : NetworkState) (limit value : ℕ) (found : AugmentingPath) (old new : Searched) → limit + 1 ≡ 2 ^ 64 → IsSolving s old value
+    → Augments limit found old new → IsNext s old new (value + found.amount)
 solving-more s limit value found old new all is augments =
     let n = s.network in
     let state = is.reached.state in
@@ -118,9 +115,6 @@ solving-more s limit value found old new all is augments =
         search_is = next;
         value_is = value_is;
       };
-      told =
-          told_of-push n s.flows is.reached.paths is.flows path is.reached.augments
-          ∙ ap (λ (told : Told). told_of n s.flows is.reached.paths ++ told ∷ []) (λ i. record { value = sym value_is i; links = sym push.links_are i });
       small = omega (arith, ints, value_is, most, state.network.capacities);
       falls = rw (next, is.search_is) (room_leaving-falls s is.flows path state reached.state least);
     }
@@ -134,14 +128,9 @@ module _ (s : NetworkState) (value : ℕ) (old new : Searched) (state : IsState 
       sym (ap (reached_flows s) (same ∙ is.search_is) ∙ read-flows by_residual_pair s.network s.flows is.flows (closed_return s.network ∷ [])
       (AllZip-long _ s.network.arcs s.flows state.flow.within) (AllZip-long _ s.network.arcs is.flows is.reached.state.flow.within) is.kept)
 
-  -- They are the outcome of solving,
+  -- They are the outcome of solving.
   abbrev solving-solves : Solves s.network s.flows is.flows
   solving-solves = record { paths = is.reached.paths; augments = is.reached.augments; no_path = search-no_path s.network is.flows old is.search_is none }
-
-  -- and all its paths were reported.
-  pub solving-told : (before after : Option (List Told)) → AreTold before after (told_of s.network s.flows is.reached.paths)
-      → TellsSolve s (reached_flows s new) before after
-  solving-told before after told = subst (λ flows. TellsSolve s flows before after) solving-read (record { solves = solving-solves; told = told })
 
 -- The search has reached the outcome of solving.
 pub solving-done : (s : NetworkState) (solved : SolvedSearch) (old : Searched) → IsState s → IsSolving s old solved.value

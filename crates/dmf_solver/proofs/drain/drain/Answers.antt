@@ -1,9 +1,8 @@
-use Rattle.std.proofs.Common.{List, ℕ, ap, arith, length, refl, inl}
+use Rattle.std.proofs.Common.{List, ℕ, ap, arith, length}
 use Rattle.std.proofs.lemmas.Slice.Zip.{AllZip-long}
 use Rattle.dmf_state.specs.Flow.{flow_on}
 use Rattle.dmf_state.proofs.ChangedArc.{has_arc-within}
-use Rattle.dmf_solver.proofs.draining.DrainingWalk.{draining-none, draining-loop, telling-loop, tells-none}
-use Rattle.dmf_solver.proofs.solving.Solving.{AreTold-none, told-refused}
+use Rattle.dmf_solver.proofs.draining.DrainingWalk.{draining-none, draining-loop}
 use Rattle.dmf_solver.proofs.drain.drain.Goals as goal
 
 pub bounds-flows-j : goal.bounds-flows-j
@@ -24,21 +23,3 @@ returns-then-arc-clause-moves g c =
     draining-loop c.args.state.now c.args.turn.arc _ c.args.turn.limit c.in_ok-moves.moves.items c.flows.ensures.state
     c.requires.is_there loop on c.if-flow-limit.false
     c.in_ok-moves.ensures
-
-pub returns-then-flow-limit-clause-drained : goal.returns-then-flow-limit-clause-drained
-returns-then-flow-limit-clause-drained g c =
-    let within = rw c.flows.ensures.value at c.if-flow-limit.true in
-    rw c.new.ensures.items (_, _, tells-none c.args.state.now.network c.args.turn c.args.state.now.flows _ within, (refl, AreTold-none _))
-
-pub returns-then-arc-clause-drained : goal.returns-then-arc-clause-drained
-returns-then-arc-clause-drained g c =
-    let loop = rw c.arc-arc.ensures.value at c.if-arc.true in
-    let on = ap (λ flows. flow_on flows c.args.turn.arc) c.flows.ensures.value in
-    telling-loop c.args.state.now c.args.turn _ c.in_ok-moves.moves.items _ _ c.flows.ensures.state c.requires.is_there loop on c.if-flow-limit.false
-    c.in_ok-moves.ensures c.lowered.ensures.drained
-
-pub returns-in_err-moves-clause-drained : goal.returns-in_err-moves-clause-drained
-returns-in_err-moves-clause-drained g c = told-refused _ _ _ c.from_residual.ensures.0 (inl (AreTold-none _))
-
-pub returns-in_err-carrying-clause-drained : goal.returns-in_err-carrying-clause-drained
-returns-in_err-carrying-clause-drained g c = told-refused _ _ _ c.from_residual-in_err-carrying.ensures.0 (inl (AreTold-none _))

@@ -1,4 +1,4 @@
-use Rattle.std.proofs.Common.{◌≡◌, [], List, ℕ, ◌-◌, length, ap, sym, ◌∙◌, arith}
+use Rattle.std.proofs.Common.{◌≡◌, List, ℕ, ◌-◌, length, ap, sym, ◌∙◌, arith}
 use Rattle.std.specs.Option.{unwrap_or}
 use Rattle.dmf_path.specs.Search.{Searched}
 use Rattle.dmf_state.specs.Flow.{flow_on}
@@ -6,9 +6,8 @@ use Rattle.dmf_solver.specs.Pairs.{Along, IsCarryingSearch, flows_read}
 use Rattle.dmf_state.proofs.ChangedArc.{has_arc-within}
 use Rattle.dmf_solver.proofs.draining.DrainingSearch.{DrainsOnce, draining-begun, draining-has_path, draining-once, draining-done}
 use Rattle.dmf_solver.proofs.draining.DrainingSearch.{carries-along, length-carries, length-draining}
-use Rattle.dmf_solver.proofs.draining.DrainingWalk.{tells-none}
+use Rattle.dmf_solver.proofs.draining.DrainingWalk.{drains-none}
 use Rattle.dmf_solver.proofs.pairs.Untouched.{keeps-same, touches-lowered}
-use Rattle.dmf_solver.proofs.solving.Solving.{AreTold-none, AreTold-trans}
 use Rattle.dmf_solver.proofs.drain.drain_along.Goals.{After-saturating_sub-left}
 use Rattle.dmf_solver.proofs.drain.drain_along.Goals as goal
 
@@ -33,9 +32,8 @@ loop-left-init g c =
     let at = (goal.at.loop-left-init g c).After-saturating_sub-left in
     record {
       draining = λ unpaired carries. rw (c.aim.ensures, c.arc-arc.ensures.value) (draining-begun s unpaired
-          (flows_read Along unpaired c.args.search.now.pairs) c.args.turn _ c.args.search.now _ (left-is g at unpaired carries) carries);
+          (flows_read Along unpaired c.args.search.now.pairs) c.args.turn _ c.args.search.now (left-is g at unpaired carries) carries);
       own = c.add.ensures.touched;
-      told = AreTold-none _;
       touches = record {
         more = c.add.ensures.more;
         below = c.add.ensures.below (length c.args.search.now.pairs)
@@ -52,21 +50,21 @@ returns-then-left-eq0-clause-drains g c = λ unpaired carries.
     let flows = flows_read Along unpaired c.args.search.now.pairs in
     let left = left-is g (goal.at.returns-then-left-eq0-clause-drains g c).After-saturating_sub-left unpaired carries in (
       carries,
-      tells-none s.network c.args.turn flows _ (omega (arith, left, c.if-left-eq0.true)),
+      drains-none s.network c.args.turn.arc c.args.turn.limit flows (omega (arith, left, c.if-left-eq0.true)),
     )
 
 -- what one more path does
 once : (g : _) (c : goal.After-lowered g) (unpaired : List ℕ) → IsCarryingSearch c.args.state.now unpaired c.args.search.now
     → DrainsOnce c.args.state.now unpaired (flows_read Along unpaired c.args.search.now.pairs)
-    c.args.turn c.loop-left.left c.in-Some.found.amount c.augment.new.self (g.W.Watch.drained c.args.watch.now) (g.W.Watch.drained c.loop-left.watch)
+    c.args.turn c.loop-left.left c.in-Some.found.amount c.augment.new.self
 once g c unpaired carries =
-    draining-once c.args.state.now unpaired _ c.args.turn _ c.in-Some.found _ _ _ _ c.requires.is_there c.requires.no_loop
+    draining-once c.args.state.now unpaired _ c.args.turn _ c.in-Some.found _ _ c.requires.is_there c.requires.no_loop
     c.loop-left-test.true
     (c.loop-left.invariant.draining unpaired carries) c.in-Some.ensures.found
 
 pub lower-requires : goal.lower-requires
 lower-requires g c =
-    (draining-once c.args.state.now c.requires.carrying.0 _ c.args.turn _ c.in-Some.found _ _ _ _ c.requires.is_there
+    (draining-once c.args.state.now c.requires.carrying.0 _ c.args.turn _ c.in-Some.found _ _ c.requires.is_there
     c.requires.no_loop c.loop-left-test.true (c.loop-left.invariant.draining c.requires.carrying.0 c.requires.carrying.1) c.in-Some.ensures.found).room
 
 pub overflow_sub-left : goal.overflow_sub-left
@@ -79,29 +77,25 @@ loop-left-smaller g c =
 
 pub loop-left-preserved : goal.loop-left-preserved
 loop-left-preserved g c = record {
-  draining = λ unpaired carries. rw c.lower.ensures ((once g c unpaired carries).draining _ c.lowered.ensures.drained);
+  draining = λ unpaired carries. rw c.lower.ensures (once g c unpaired carries).draining;
   own = c.in-Some.ensures.touched.more _ c.loop-left.invariant.own;
-  told = AreTold-trans _ _ _ [] [] c.loop-left.invariant.told c.lowered.ensures.told;
   touches =
       let s = c.args.state.now in
       let draining = c.loop-left.invariant.draining c.requires.carrying.0 c.requires.carrying.1 in
       let begun = length-carries s c.requires.carrying.0 _ c.args.search.now c.requires.carrying.1 in
       rw c.lower.ensures (touches-lowered c.args.touched.now c.loop-left.touched c.augment.new.touched c.args.search.now.pairs c.loop-left.search.pairs
       c.augment.new.self.pairs (c.args.turn.arc - 1) c.in-Some.found.amount
-      (length-draining s c.requires.carrying.0 _ c.args.turn _ c.loop-left.search _ _ draining ∙ sym begun)
+      (length-draining s c.requires.carrying.0 _ c.args.turn _ c.loop-left.search draining ∙ sym begun)
       c.loop-left.invariant.own c.loop-left.invariant.touches c.in-Some.ensures.touched);
 }
 
 -- the flow on the arc comes back
 pub unreachable-requires : goal.unreachable-requires
 unreachable-requires g c =
-    draining-has_path c.args.state.now c.requires.carrying.0 _ c.args.turn _ _ _ _
+    draining-has_path c.args.state.now c.requires.carrying.0 _ c.args.turn _ _
     (c.loop-left.invariant.draining c.requires.carrying.0 c.requires.carrying.1) c.requires.is_there c.loop-left-test.true c.in-None.ensures.found.0
 
 pub returns-clause-drains : goal.returns-clause-drains
 returns-clause-drains g c = λ unpaired carries.
-    rw c.settle.ensures (draining-done c.args.state.now unpaired _ c.args.turn _ _ _ _ (c.loop-left.invariant.draining unpaired carries)
+    rw c.settle.ensures (draining-done c.args.state.now unpaired _ c.args.turn _ _ (c.loop-left.invariant.draining unpaired carries)
     c.loop-left-test.false)
-
-pub returns-then-left-eq0-clause-told : goal.returns-then-left-eq0-clause-told
-returns-then-left-eq0-clause-told g c = AreTold-none _

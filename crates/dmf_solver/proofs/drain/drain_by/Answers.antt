@@ -1,13 +1,11 @@
-use Rattle.std.proofs.Common.{[], ◌∷◌, ◌≡◌, ◌∙◌, inl, length, refl, sym, subst, arith}
+use Rattle.std.proofs.Common.{◌≡◌, length, subst, arith}
 use Rattle.std.proofs.lemmas.Result.{IfOk-weaker}
 use Rattle.std.proofs.lemmas.Slice.Zip.{AllZip-long}
 use Rattle.dmf_path.specs.Touched.{AreBelow}
 use Rattle.dmf_solver.specs.Moves.{UntouchedStay}
 use Rattle.dmf_solver.specs.Pairs.{Along, IsCarryingSearch, flows_read}
-use Rattle.dmf_solver.specs.Turns.{TellsDrains}
-use Rattle.dmf_solver.proofs.draining.DrainingSearch.{carrying-first, length-carries, one_each}
-use Rattle.dmf_solver.proofs.draining.DrainingWalk.{draining-moves, tells-listed}
-use Rattle.dmf_solver.proofs.solving.Solving.{AreTold-none, told-refused}
+use Rattle.dmf_solver.proofs.draining.DrainingSearch.{carrying-first, length-carries}
+use Rattle.dmf_solver.proofs.draining.DrainingWalk.{draining-moves}
 use Rattle.dmf_solver.proofs.pairs.Untouched.{drained-stay}
 use Rattle.dmf_solver.proofs.drain.drain_by.Goals as goal
 use Rattle.dmf_solver.proofs.drain.drain_by.Goals.{In_ok-touched, After-drain_along}
@@ -46,33 +44,11 @@ list_drained-requires-clause-others_stay g c =
     (drained-stay s s.flows c.args.carrying c.drain_along.new.search c.drain_along.new.touched here.0
     (drained g (goal.at.list_drained-requires-clause-others_stay g c).After-drain_along) c.drain_along.ensures.touched.kept)
 
--- The drain was reported, up to the flows of the search.
-told : (g : _) (c : After-drain_along g) → TellsDrains c.args.state.now.network (c.args.turn ∷ []) c.args.state.now.flows
-    (flows_read Along c.args.state.now.flows c.drain_along.new.search.pairs) (g.W.Watch.drained c.args.watch.now)
-    (g.W.Watch.drained c.drain_along.new.watch)
-told g c =
-    let here = begun g (goal.at.After-drain_along g c).In_ok-touched in
-    (_, _, rw here.1 at (c.drain_along.ensures.drains c.args.state.now.flows here.0).1, (refl, AreTold-none _))
-
 pub returns-clause-moves : goal.returns-clause-moves
 returns-clause-moves g c =
     let s = c.args.state.now in
     let last = flows_read Along s.flows c.drain_along.new.search.pairs in
     let here = begun g (goal.at.returns-clause-moves g c).In_ok-touched in
-    let drains = rw here.1 at (c.drain_along.ensures.drains s.flows here.0).1.drains in
+    let drains = rw here.1 at (c.drain_along.ensures.drains s.flows here.0).1 in
     IfOk-weaker c.list_drained.result _ _ (λ drained listed. draining-moves s c.args.turn.arc c.args.turn.limit last drained.moves.items
     c.most_touched.ensures c.requires.is_there drains listed) c.list_drained.ensures.moves
-
-pub returns-clause-drained : goal.returns-clause-drained
-returns-clause-drained g c =
-    let s = c.args.state.now in
-    let here = (goal.at.returns-clause-drained g c).After-drain_along in
-    tells-listed s (c.args.turn ∷ []) (flows_read Along s.flows c.drain_along.new.search.pairs) c.list_drained.result _ _
-    (one_each s s.flows _ c.drain_along.new.search (drained g here) ∙ sym (AllZip-long _ s.network.arcs s.flows c.most_touched.ensures.flow.within))
-    c.list_drained.ensures.moves (told g here)
-
-pub returns-in_err-touched-clause-drained : goal.returns-in_err-touched-clause-drained
-returns-in_err-touched-clause-drained g c = told-refused _ _ _ c.from_residual.ensures.0 (inl (AreTold-none _))
-
-pub returns-in_err-touched-clause-told : goal.returns-in_err-touched-clause-told
-returns-in_err-touched-clause-told g c = AreTold-none (g.W.Watch.told c.args.watch.now)

@@ -1,19 +1,15 @@
-use Rattle.std.proofs.Common.{drop, take, length, [], ◌+◌}
+use Rattle.std.proofs.Common.{drop, take, length, ◌+◌}
 use Rattle.dmf_path.specs.Touched.{AreBelow}
 use Rattle.dmf_state.specs.Edit.{numbers}
 use Rattle.dmf_solver.specs.Moves.{UntouchedStay}
 use Rattle.dmf_solver.specs.Pairs.{drained_flows, flows_without}
-use Rattle.dmf_solver.specs.Told.{AreTold}
-use Rattle.dmf_solver.specs.Turns.{turns_from, turns_to_zero}
 use Rattle.dmf_solver.proofs.draining.DrainedInTurn.{AreDrainedUpTo}
 use Rattle.dmf_solver.proofs.shut.drain_all_by.Given as goal
 
--- The arcs before this one are drained, and the drains were reported. All flows that differ count as touched.
+-- The arcs before this one are drained. All flows that differ count as touched.
 abbrev pub invariant-loop-i : goal.invariant-loop-i
 invariant-loop-i g l = record {
-  up_to : AreDrainedUpTo l.state (turns_to_zero (numbers l.arcs)) (turns_from (l.i + 1) (length (numbers l.arcs)) (numbers (drop l.i l.arcs)))
-      (flows_without (take l.i l.arcs) l.state.flows) l.search (g.W.Watch.drained l.fn.watch) (g.W.Watch.drained l.watch);
+  up_to : AreDrainedUpTo l.state (numbers l.arcs) (numbers (drop l.i l.arcs)) (flows_without (take l.i l.arcs) l.state.flows) l.search;
   others_stay : UntouchedStay l.touched l.state.flows (drained_flows l.state (take l.i l.arcs) l.search);
   below : AreBelow (length l.state.flows + 1) l.touched;
-  told : AreTold (g.W.Watch.told l.fn.watch) (g.W.Watch.told l.watch) [];
 }

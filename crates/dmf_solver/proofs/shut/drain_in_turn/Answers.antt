@@ -1,6 +1,5 @@
-use Rattle.std.proofs.Common.{◌≡◌, ◌-◌, ◌∙◌, [], ◌∷◌, arith, length, refl, subst, sym}
+use Rattle.std.proofs.Common.{◌≡◌, ◌-◌, ◌∙◌, arith, length, refl, sym}
 use Rattle.std.proofs.lemmas.Option.{get_or_from_slice_get}
-use Rattle.dmf_solver.specs.Told.{AreTold}
 use Rattle.dmf_state.specs.Flow.{flow_on}
 use Rattle.dmf_state.proofs.ChangedArc.{has_arc-within}
 use Rattle.dmf_solver.proofs.draining.DrainingSearch.{length-carries}
@@ -31,19 +30,17 @@ returns-then-flow-gt0-clause-drains g c = λ unpaired carries first.
     let loop = rw c.arc-arc.ensures.value at c.if-arc.true in
     let is : c.flow-flow.result ≡ flow_on unpaired c.args.turn.arc =
     sym (first ∙ on g (goal.at.returns-then-flow-gt0-clause-drains g c).After-flow-flow) in
-    drained-by_list c.args.state.now c.args.turn unpaired c.args.search.now _ _ _ c.requires.is_there loop c.requires.to_zero carries
+    drained-by_list c.args.state.now c.args.turn.arc unpaired c.args.search.now _ c.requires.is_there loop carries
     (omega (arith, is, c.if-flow-gt0.true)) c.add.ensures.touched
-    (subst (λ amount. AreTold (g.W.Watch.drained c.args.watch.now) (g.W.Watch.drained c.lowered.new.self) (record { turn = c.args.turn; amount = amount } ∷ []))
-    is c.lowered.ensures.drained)
 
 pub returns-else-flow-gt0-clause-drains : goal.returns-else-flow-gt0-clause-drains
 returns-else-flow-gt0-clause-drains g c = λ unpaired carries first.
     let loop = rw c.arc-arc.ensures.value at c.if-arc.true in
-    drained-in_list c.args.state.now c.args.turn unpaired c.args.search.now _ _ c.requires.is_there loop carries
+    drained-in_list c.args.state.now c.args.turn.arc unpaired c.args.search.now _ c.requires.is_there loop carries
     (omega (arith, first, on g (goal.at.returns-else-flow-gt0-clause-drains g c).After-flow-flow, c.if-flow-gt0.false))
 
 pub returns-else-arc-clause-drains : goal.returns-else-arc-clause-drains
 returns-else-arc-clause-drains g c = λ unpaired carries first.
     let drains = c.drain_along.ensures.drains unpaired carries in
-    drained-by_search c.args.state.now c.args.turn unpaired c.args.search.now c.drain_along.new.search _ _ _ (rw c.arc-arc.ensures.value at c.if-arc.false)
-    carries drains.0 drains.1 c.drain_along.ensures.touched.kept
+    drained-by_search c.args.state.now c.args.turn.arc unpaired c.args.search.now c.drain_along.new.search _ (rw c.arc-arc.ensures.value at c.if-arc.false)
+    carries drains.0 (rw c.requires.to_zero at drains.1) c.drain_along.ensures.touched.kept

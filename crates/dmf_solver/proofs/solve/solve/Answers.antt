@@ -2,8 +2,7 @@ use Rattle.std.proofs.Common.{[], ◌∙◌, refl, ap, subst, sym}
 use Rattle.dmf_path.specs.ClosedSide.{IsClosedSide}
 use Rattle.dmf_path.specs.Pair.{steps_of}
 use Rattle.dmf_path.specs.Search.{Searched}
-use Rattle.dmf_solver.proofs.solving.Solving.{AreTold-none, AreTold-trans}
-use Rattle.dmf_solver.proofs.solving.SolvingSearch.{solving-more, solving-done, solving-told}
+use Rattle.dmf_solver.proofs.solving.SolvingSearch.{solving-more, solving-done}
 use Rattle.dmf_solver.proofs.pairs.Untouched.{keeps-same, keeps-next, keeps-sorted, below-next}
 use Rattle.dmf_solver.proofs.solve.solve.Goals as goal
 
@@ -27,8 +26,6 @@ loop-found-init g c = record {
     search_is = c.requires.residual;
     value_is = c.value-value.ensures.value;
   };
-  told = AreTold-none _;
-  drained = AreTold-none _;
   kept = keeps-same _ _ _ (ap (λ (o : Searched). o.pairs) c.requires.residual);
   below = c.requires.below;
   ways = c.requires.ways;
@@ -43,8 +40,6 @@ loop-found-preserved g c =
     let touches = c.next_path.ensures.touched in
     record {
       solving = more.solving;
-      told = rw more.told (AreTold-trans _ _ _ _ _ is.told c.augmented.ensures.told);
-      drained = AreTold-trans _ _ _ [] [] is.drained c.augmented.ensures.drained;
       kept = keeps-next c.loop-found.touched c.next_path.new.touched _ c.loop-found.search.pairs c.next_path.new.search.pairs is.kept touches;
       below = below-next s c.loop-found.value c.loop-found.search c.loop-found.touched c.next_path.new.touched is.solving touches.below is.below;
       ways = c.next_path.ensures.ways (λ none. let is = c.in-Some.is in cc);
@@ -60,12 +55,6 @@ returns-clause-solved g c =
     let below = below-next s c.loop-found.value c.loop-found.search c.loop-found.touched c.next_path.new.touched is.solving touches.below is.below in
     solving-done s _ c.loop-found.search c.value-value.ensures.state is.solving none.0 none.1
     (keeps-sorted c.next_path.new.touched c.sort.new.self _ _ kept c.sort.ensures.same) (c.sort.ensures.below _ below) c.sort.ensures.sorted
-
-pub returns-clause-told : goal.returns-clause-told
-returns-clause-told g c =
-    let none = c.in_default.ensures.found in
-    solving-told c.args.state.now c.loop-found.value c.loop-found.search c.next_path.new.search c.value-value.ensures.state c.loop-found.invariant.solving
-    none.0 none.1 _ _ c.loop-found.invariant.told
 
 pub returns-clause-side : goal.returns-clause-side
 returns-clause-side g c = λ long.

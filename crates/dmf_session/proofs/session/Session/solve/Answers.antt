@@ -1,10 +1,8 @@
-use Rattle.std.proofs.Common.{inr, sym, subst, refl}
+use Rattle.std.proofs.Common.{sym, subst, refl}
 use Rattle.dmf_state.specs.Edit.{applied}
 use Rattle.dmf_solver.specs.Planning.{IsSideWanted}
 use Rattle.dmf_history.proofs.Appending.{appends-applied}
-use Rattle.dmf_session.specs.declared.command.Reply.TheVariants.{Solution}
 use Rattle.dmf_session.proofs.Optimal.{planned-optimal}
-use Rattle.dmf_session.proofs.Telling.{TellsStep-nothing, TellsStep-refused, TellsStep-solved}
 use Rattle.dmf_session.proofs.session.Session.solve.Goals as goal
 
 pub returns-clause-answer : goal.returns-clause-answer
@@ -34,33 +32,3 @@ returns-clause-optimal g c =
     planned-optimal c.greatest_is_optimal.ensures (timeline c.take_network.new.self)
     (timeline c.append.new.self) c.present.result.now c.in_ok-edit.edit c.present.ensures.state plans.plan.fits plans.plan.becomes plans.greatest
     c.in_ok-append.ensures.ok
-
--- If memory is refused, nothing was reported,
-pub returns-in_err-network-clause-told : goal.returns-in_err-network-clause-told
-returns-in_err-network-clause-told g c =
-    let timeline = g.H.History.timeline in
-    TellsStep-nothing (timeline c.args.self.now) (timeline c.take_network.new.self) c.from_residual.result _ c.from_residual.ensures.0
-
--- or what the plan reported.
-pub returns-in_err-edit-clause-told : goal.returns-in_err-edit-clause-told
-returns-in_err-edit-clause-told g c =
-    let timeline = g.H.History.timeline in
-    let present = rw c.take_network.ensures.unchanged at c.present.ensures.state in
-    TellsStep-refused (timeline c.args.self.now) (timeline c.take_network.new.self) c.present.result.now c.from_residual-in_err-edit.result _ _ present
-    c.from_residual-in_err-edit.ensures.0 c.in_err-edit.ensures.told
-
-pub returns-in_err-append-clause-told : goal.returns-in_err-append-clause-told
-returns-in_err-append-clause-told g c =
-    let timeline = g.H.History.timeline in
-    let s = c.present.result.now in
-    let present = rw c.take_network.ensures.unchanged at c.present.ensures.state in
-    TellsStep-refused (timeline c.args.self.now) (timeline c.append.new.self) s c.from_residual-in_err-append.result _ _ present
-    c.from_residual-in_err-append.ensures.0 (inr ((applied c.in_ok-edit.edit s).flows, c.in_ok-edit.ensures.told))
-
-pub returns-clause-told : goal.returns-clause-told
-returns-clause-told g c =
-    let timeline = g.H.History.timeline in
-    let present = rw c.take_network.ensures.unchanged at c.present.ensures.state in
-    let appends = rw c.take_network.ensures.unchanged at c.in_ok-append.ensures.ok in
-    TellsStep-solved (timeline c.args.self.now) (timeline c.append.new.self) c.present.result.now c.in_ok-edit.edit
-    (Solution c.in_ok-edit.side) _ _ present appends c.in_ok-edit.ensures.told

@@ -6,8 +6,8 @@ use Rattle.dmf_state.specs.Edit.{differences}
 use Rattle.dmf_solver.specs.KeptNetwork.{KeptNetwork, IsNetworkOf}
 use Rattle.dmf_solver.specs.Pairs.{reached_flows, IsAtEnd, HasSolved}
 use Rattle.dmf_solver.specs.ResidualNetwork.{IsResidualOf}
-use Rattle.dmf_solver.proofs.solving.AtOnce.{at_once, solved-at_once, end-at_once, told-at_once, listed-at_once}
-use Rattle.dmf_solver.proofs.solving.SolvedEdit.{PlansSolve-listed, value-listed, told-listed}
+use Rattle.dmf_solver.proofs.solving.AtOnce.{at_once, solved-at_once, end-at_once, listed-at_once}
+use Rattle.dmf_solver.proofs.solving.SolvedEdit.{PlansSolve-listed, value-listed}
 use Rattle.dmf_solver.proofs.residual_network.ResidualNetwork.plan_nothing.Goals.{After-value, After-new-moves}
 use Rattle.dmf_solver.proofs.residual_network.ResidualNetwork.plan_nothing.Goals as goal
 
@@ -44,11 +44,3 @@ returns-clause-value c =
     let at = (goal.at.returns-clause-value c).After-value in
     value-listed c.args.state.now _ c.new-moves.result c.value.ensures.state (solved at) (c.new-moves.ensures.items ∙ listed at) c.in_ok-side.side
     (rw c.as_search-search.ensures at c.in_ok-side.ensures.value)
-
-pub returns-clause-told : goal.returns-clause-told
-returns-clause-told c = λ told.
-    let s = c.args.state.now in
-    let at = (goal.at.returns-clause-told c).After-value in
-    let v = c.value.ensures in
-    told-listed s _ c.new-moves.result v.state (solved at) (c.new-moves.ensures.items ∙ listed at) told told
-    (told-at_once s c.self.inside.search c.value.result v.state (is at) v.value (none at) told)
