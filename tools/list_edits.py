@@ -33,7 +33,9 @@ KEPT, MORE = "must-fail", "more-must-fail"
 USE = re.compile(r"^pub use ([\w:]+)::(?:\{([^}]*)\}|(\w+));", re.MULTILINE)
 BLOCK = re.compile(r"^(pub trait|impl)\b([^{;]*)\{\n(.*?)^\}", re.MULTILINE | re.DOTALL)
 FUNCTION = re.compile(r"^( *)(pub )?fn (\w+)(.*?)(?:;$|^\1[{}])", re.MULTILINE | re.DOTALL)
-C_FUNCTION = re.compile(r'^pub (?:unsafe )?extern "C" fn (\w+)(.*?)^\{', re.MULTILINE | re.DOTALL)
+C_FUNCTION = re.compile(
+    r'^pub (?:unsafe )?extern "C" fn (\w+)(.*?)(?:^|\) )\{$', re.MULTILINE | re.DOTALL
+)
 CLAUSE = re.compile(r"^ +ensures (?:(\w+) )?\{", re.MULTILINE)
 COVERS = re.compile(r"^covers: (.*)$", re.MULTILINE)
 COVERED = re.compile(r"([\w:]+)(?: \(([\w, ]+)\))?(?:, |$)")
@@ -76,18 +78,14 @@ REASONS = {
     "the other "
     "versions",
     "Session::new": "a body has no other history to give than the one that it gets",
+    "Session::history": "a body has no other history to lend than its own",
     **{
         f"dmf_session_{call} (unchanged)": READ_ONLY
-        for call in (*C_NUMBERS, "flows", "capacities", "arc_range")
+        for call in (*C_NUMBERS, "flows", "capacities", "arc_range", "moved")
     },
     "Files::open": FOR_CALLERS,
     "Runner::run (task)": FOR_CALLERS,
     "Runner::run (runs)": FOR_CALLERS,
-    **{
-        f"Watch::{call} ({name})": FOR_CALLERS
-        for call in ("begun", "augmented", "lowered")
-        for name in ("told", "drained")
-    },
 }
 # Clauses that are so simple that the gate leaves out their edits.
 ONE_FIELD = "left out, since the body gives or sets one field"

@@ -6,9 +6,8 @@ uses:
 - each link between pages leads to a file, and to a heading of it where it names one;
 - each name of code and of a file that a page has in backquotes stands in the repository;
 - no page has more words than its bound, and each names its reader in its first lines;
-- each crate with code has a page that says what is proved, and the page of the Python package names
-  each module;
-- the pictures of docs/SEARCH.md are those of their sources;
+- the page of the Python package names each module;
+- the pictures of docs/ that have a source are those of their sources;
 - the index of docs/DECISIONS.md has each decision, and no page breaks a line within a sentence;
 - each definition and lemma is named by the rest of its file, or by a file that names its file."""
 
@@ -33,6 +32,7 @@ MORE_WORDS = {
     "CONTRIBUTING.md": 1_900,
     "bench/README.md": 1_900,
     "docs/DEFINITIONS.md": 4_200,
+    "docs/LIBRARY.md": 1_950,
     "docs/PROVED.md": 2_000,
     "docs/SEARCH.md": 2_750,
 }
@@ -40,8 +40,9 @@ GROWING = {"CHANGELOG.md", "docs/DECISIONS.md"}
 
 
 def is_general(file: Path) -> bool:
-    """Whether it has definitions or lemmas, and not what else the proof of one function needs."""
-    return file.stem not in ("Lib", "Answers", "Invariants", "Proof")
+    """Whether it has definitions or lemmas, and not what else the proof of one function or type
+    needs."""
+    return file.stem not in ("Lib", "Answers", "Invariants", "Proof", "Send")
 
 
 def headless_files() -> Iterator[str]:
@@ -182,21 +183,6 @@ def broken_sentences() -> Iterator[str]:
 
 def test_sentences() -> None:
     assert not [*broken_sentences()]
-
-
-def test_crates() -> None:
-    """Each crate with code has a page that says what is proved."""
-    folders = [
-        it
-        for it in Path("crates").glob("[!t]*")
-        if any("fn " in file.read_text() for file in it.glob("src/**/*.rt"))
-    ]
-    assert len(folders) > 10
-    assert not [
-        it
-        for it in folders
-        if not (it / "README.md").exists() or "proved" not in (it / "README.md").read_text().lower()
-    ]
 
 
 def test_modules() -> None:

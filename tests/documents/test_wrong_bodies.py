@@ -93,7 +93,7 @@ def test_each_clause_has_an_edit() -> None:
     known = {
         ("State::push_arc", "err"),
         ("plan_cap", "takes_off"),
-        ("Session::step_watched", "told"),
+        ("Session::step_watched", "answer"),
         ("History::redo", "memory"),
     }
     assert known | {("run_session", ""), ("read_problem", ""), ("Sink::put", "some")} <= rows
