@@ -17,21 +17,8 @@ from typing import Any
 import pytest
 from client_shared import CLIENT, ROOT, dmf
 from dmf import errors
-from dmf.network_changes import ChangeableNetwork
-from dmf.network_losses import VitalNetwork
-from dmf.presentation import Presentable
 from dmf.sweeps import cases as sweeping
-
-ONE_CALL = (
-    "value",
-    "minimum_cut",
-    "maximum_flow",
-    "vital",
-    "from_networkx",
-    "from_igraph",
-    "from_scipy",
-)
-SWEEPS = "sweep", "each_arc_closed", "each_node_shut", "each_capacity_raised", "each_pair_added"
+from public_calls import CALLS, PROJECT_CALLS
 
 
 @pytest.mark.parametrize("module", [dmf, sweeping], ids=["dmf", "sweeping"])
@@ -46,28 +33,11 @@ def test_docstrings(module: ModuleType) -> None:
     assert (runner.failures, runner.tries > 0) == (0, True)
 
 
-# The calls of these have docstrings in numpy's style.
-CALLS = {
-    **{
-        f"Network.{name}": getattr(dmf.Network, name)
-        for kind in (dmf.Network, VitalNetwork, ChangeableNetwork, Presentable)
-        for name in vars(kind)
-    },
-    **{
-        f"{kind.__name__}.{name}": getattr(kind, name)
-        for kind in (dmf.Solution, dmf.Cut)
-        for name in vars(kind)
-    },
-    **{name: getattr(dmf, name) for name in (*ONE_CALL, *SWEEPS)},
-}
-PUBLIC_CALLS = {name: call for name, call in CALLS.items() if "._" not in name}
-
-
-@pytest.mark.parametrize("name", PUBLIC_CALLS)
+@pytest.mark.parametrize("name", CALLS)
 def test_call(name: str) -> None:
     """Each public call of a network, of a graph and of a sweep first says what it does, names its
     parameters, and has an example, which is run."""
-    call = PUBLIC_CALLS[name]
+    call = CALLS[name]
     judge_docstring(call)
     run_examples(call, {name: getattr(dmf, name) for name in dir(dmf)})
 
@@ -97,15 +67,6 @@ def judge_docstring(call: Any) -> None:
     assert not named or named == parameters - {"self"}
 
 
-PROJECT_CALLS = {
-    **{
-        f"OpenProject.{name}": inspect.getattr_static(dmf.OpenProject, name)
-        for name in dir(dmf.OpenProject)
-        if not name.startswith("_")
-    },
-    "new_project": dmf.new_project,
-    "open_project": dmf.open_project,
-}
 # The table of the examples, with a column of costs.
 TABLE = "from,to,capacity,name,cost\nlake,mill,3,Lake pipe,10\nmill,sea,2,Mill pipe,5\n"
 

@@ -3,6 +3,7 @@ what happens if memory is short."""
 
 from __future__ import annotations
 
+import ctypes
 import gc
 import itertools
 import signal
@@ -19,39 +20,26 @@ from built import heed_interrupts
 from c_library import library_file
 from client_shared import BUILT, PIPES, dmf, environment, interrupted_soon, pipes
 from dmf.session import library as loaded
-from dmf.session.base import Part
-from dmf.session.statuses import NO_MEMORY
+from dmf.session.base import Ranked
+from dmf.session.library_batches import KINDS
+from dmf.session.statuses import NO_MEMORY, OK
 from tool_runs import wait_until_asleep
-from watched_library import SECONDS, counted, slow_solve, wait_until_freed
+from watched_library import GRID, SECONDS, counted, slow_call, wait_until_freed
 
-# A network large enough that its calls run beside, whose solve takes a second on an idle processor:
-# a grid with arcs in three directions.
-GRID = """
-import os, random, sys, time
-import dmf
-
-def grid(side):
-    draw = random.Random(side)
-    places = [(x, y) for x in range(side) for y in range(side)]
-    ends = [((x, y), to) for x, y in places for to in ((x + 1, y), (x, y + 1), (x, y - 1))]
-    inside = range(side)
-    rows = [(*it, draw.randint(1, 99)) for it in ends if it[1][0] in inside and it[1][1] in inside]
-    rows += [("s", (0, y), 10**6) for y in inside]
-    return rows + [((side - 1, y), "t", 10**6) for y in inside]
-"""
 BROKEN_OFF = (
     GRID
     + """
 network = dmf.Network(grid(200), "s", "t")
+best = network.solve().value
 print("begun", flush=True)
 input()
 began = time.monotonic()
 try:
-    network.solve()
+    network.vital(top=5)
 except KeyboardInterrupt:
-    print(time.monotonic() - began, network.value, network.undo(0), flush=True)
+    print(time.monotonic() - began, network.value - best, flush=True)
 began = time.monotonic()
-print(network.solve().value, network.undo(), time.monotonic() - began, flush=True)
+print(network.undo(), network.redo(), time.monotonic() - began, flush=True)
 print(dmf.value(grid(200), "s", "t"), flush=True)
 os._exit(0) if "now" in sys.argv else None
 """
@@ -120,7 +108,7 @@ def test_a_sweep(bound: int) -> None:
 
 def test_another_thread_breaks_it_off(monkeypatch: pytest.MonkeyPatch, bound: int) -> None:
     """A call that runs beside is left at once; another one is left when it ends."""
-    with counted(monkeypatch) as freed, prepared() as network, slow_solve(monkeypatch) as (
+    with counted(monkeypatch) as freed, prepared() as network, slow_call(monkeypatch, "solve") as (
         begun,
         until,
     ):
@@ -150,8 +138,9 @@ def test_another_thread_breaks_it_off(monkeypatch: pytest.MonkeyPatch, bound: in
 @pytest.mark.parametrize("how", ["now", "at the end"])
 @pytest.mark.seconds(6)
 def test_ctrl_c(how: str) -> None:
-    """A signal to a process of its own, in a solve of 119,600 arcs: it comes back at once, and the
-    next call starts a new session. An abandoned call keeps no interpreter from ending."""
+    """A signal to a process of its own, while losses of 119,600 arcs are found, which takes several
+    times as long as a solve: it comes back at once, and the next call starts a new session. An
+    abandoned call keeps no interpreter from ending."""
     words, pipe = [sys.executable, "-c", BROKEN_OFF, how], subprocess.PIPE
     with subprocess.Popen(
         words, env=environment(), stdin=pipe, stdout=pipe, text=True, preexec_fn=heed_interrupts
@@ -164,8 +153,8 @@ def test_ctrl_c(how: str) -> None:
             time.sleep(0.05)
             user.send_signal(signal.SIGINT)
             broken = user.stdout.readline().split()
-            value, undone, took = user.stdout.readline().split()
-            assert broken[1:] == ["0", "0"] and undone == "0"
+            undone, value, took = user.stdout.readline().split()
+            assert broken[1:] == ["0"] and undone == "0"
             assert float(broken[0]) < float(took) / 2
             assert user.stdout.readline() == f"{value}\n" and user.wait(SECONDS) == 0
         finally:
@@ -194,15 +183,49 @@ def test_one_call_without_memory(monkeypatch: pytest.MonkeyPatch, bound: int) ->
 
 
 def short(monkeypatch: pytest.MonkeyPatch, word: str, arc: int) -> None:
-    """Lets the library answer that memory is short to a command about an arc, or to one about
-    none."""
-    commands: Any = loaded.load(library_file()).commands
-    call = commands[word]
+    """Lets the library answer that memory is short to a command about an arc, alone or among
+    others."""
+    calls: Any = loaded.load(library_file())
+    call, run = calls.commands[word], calls.run
 
-    def refusing(address: int, *numbers: int) -> int:
-        return NO_MEMORY if not numbers or numbers[0] == arc else int(call(address, *numbers))
+    def refusing(address: int, number: int) -> int:
+        return NO_MEMORY if number == arc else int(call(address, number))
 
-    monkeypatch.setitem(commands, word, refusing)
+    def refusing_among(address: int, *words: Any) -> int:
+        kinds = (ctypes.c_uint32 * words[1]).from_address(words[0])
+        firsts = (ctypes.c_uint64 * words[3]).from_address(words[2])
+        commands = [*zip(kinds, firsts)]
+        if (KINDS[word], arc) not in commands:
+            return int(run(address, *words))
+        before = commands.index((KINDS[word], arc))
+        lengths = [before if at % 2 else it for at, it in enumerate(words[:-1])]
+        assert run(address, *lengths, words[-1]) == OK
+        return NO_MEMORY
+
+    monkeypatch.setitem(calls.commands, word, refusing)
+    monkeypatch.setattr(calls, "run", refusing_among)
+
+
+@pytest.mark.parametrize("history", [None, 3, 6])
+def test_a_copy(monkeypatch: pytest.MonkeyPatch, bound: int, history: int | None) -> None:
+    """The library copies the session with its history, and no command is repeated. Without memory
+    for that nothing has changed."""
+    calls: Any = loaded.load(library_file())
+    with prepared(history=history) as network, prepared(program=BUILT, history=history) as other:
+        with monkeypatch.context() as patched:
+            patched.setattr(calls, "copy", lambda *_: NO_MEMORY)
+            with pytest.raises(dmf.NoMemory, match="^no memory$"):
+                network.copy()
+        with monkeypatch.context() as patched:
+            patched.delattr(calls, "new")
+            patched.delattr(calls, "run")
+            copy = network.copy()
+        wanted = all_told(other)
+        assert all_told(copy) == wanted
+        copy.close(("lake", "town"))
+        copy.solve()
+        copy.end()
+        assert all_told(network) == wanted
 
 
 def test_want_of_memory(monkeypatch: pytest.MonkeyPatch, bound: int) -> None:
@@ -216,7 +239,7 @@ def test_want_of_memory(monkeypatch: pytest.MonkeyPatch, bound: int) -> None:
                 network.close(("lake", "town"))
             # Without memory for the losses, each case is tried.
             losses: Any = loaded.load(library_file()).losses
-            patched.setitem(losses, Part.ARC, lambda *_: NO_MEMORY)
+            patched.setitem(losses, Ranked.ARCS, lambda *_: NO_MEMORY)
             # Each pipe closed in turn, worked by hand.
             told = [
                 it.value if it.refusal is None else type(it.refusal)

@@ -15,7 +15,7 @@ from broken_off import all_told, prepared
 from client_shared import BUILT, PIPES, dmf, interrupted_soon, pipes
 from dmf.session import library as loaded
 from dmf.session import worker_threads
-from watched_library import SECONDS, counted, slow_solve, wait_until_freed
+from watched_library import SECONDS, counted, slow_call, wait_until_freed
 
 pytestmark = pytest.mark.usefixtures("by_library")
 
@@ -48,14 +48,14 @@ def test_it_is_freed(monkeypatch: pytest.MonkeyPatch) -> None:
 
 
 def test_what_was_broken_off_is_freed_at_its_end(monkeypatch: pytest.MonkeyPatch) -> None:
-    """Ctrl-C leaves the call alone, whose session is freed once that ends; meanwhile the network
-    goes on by another one."""
+    """Ctrl-C leaves a call alone that nothing ends, whose session is freed once the call is done;
+    meanwhile the network goes on by another one."""
     monkeypatch.setattr(loaded, "MOST_AT_ONCE", 0)
     with counted(monkeypatch) as freed, prepared() as network, prepared(
         program=BUILT
-    ) as other, slow_solve(monkeypatch) as (begun, until):
+    ) as other, slow_call(monkeypatch, "close") as (begun, until):
         with pytest.raises(KeyboardInterrupt), interrupted_soon(0.3):
-            network.solve()
+            network.close(("lake", "town"))
         assert begun.is_set() and all_told(network) == all_told(other) and freed == []
         until.set()
         wait_until_freed(freed)
@@ -78,9 +78,9 @@ def test_one_thread_runs_call_after_call(monkeypatch: pytest.MonkeyPatch) -> Non
         for _ in range(20):
             assert all_told(network) == all_told(other)
         assert len(begun) == 1
-        with slow_solve(monkeypatch) as (is_begun, _):
+        with slow_call(monkeypatch, "close") as (is_begun, _):
             with pytest.raises(KeyboardInterrupt), interrupted_soon(0.3):
-                network.solve()
+                network.close(("lake", "town"))
             assert is_begun.is_set() and all_told(network) == all_told(other)
         assert len(begun) == 2
         child = os.fork()
@@ -102,7 +102,7 @@ def test_few_threads_are_kept() -> None:
     for turn in range(3):
         until.clear()
         for number in range(turn * 50, turn * 50 + 50):
-            threads.begin(worker_threads.Job(work, worker_threads.Handle(int, 0), (number,)))
+            threads.begin(worker_threads.Job(work, worker_threads.Handle(int), (number,)))
         until.set()
         end = time.monotonic() + SECONDS
         while len(done) < turn * 50 + 50 or len(threads._waiting) > worker_threads.MOST_THREADS:

@@ -167,7 +167,8 @@ def test_all_workers_begin_at_once() -> None:
         futures = [future for _, future in given]
         futures[2].set_exception(ZeroDivisionError("of a worker"))
         for place in 1, 0, 3:
-            futures[place].set_result(([CaseAnswer(16 * place + turn) for turn in range(16)], 0.1))
+            answers = [CaseAnswer(16 * place + turn) for turn in range(16)]
+            futures[place].set_result((answers, 0.1, 0.0))
         thread.join(SECONDS)
         assert (told[:-1], type(told[-1])) == (list(range(32)), ZeroDivisionError)
 

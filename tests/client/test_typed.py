@@ -1,11 +1,14 @@
 """The package and a caller's file pass `mypy --strict`, and a caller's mistakes do not."""
 
+import ast
 import os
 import re
 import subprocess
+from pathlib import Path
 
 from client_shared import CLIENT, ROOT
 from conftest import Types
+from public_calls import NAMES
 
 USER = f"{ROOT}/tests/client/typed_user.py"
 # Each of these is one line of a caller, with the kind of the error that mypy tells of it.
@@ -48,3 +51,11 @@ def test_mistakes(types: Types) -> None:
     assert told == [
         ("<string>", str(line), code) for line, code in enumerate(MISTAKES.values(), 2)
     ], said
+
+
+def test_the_caller_makes_every_call() -> None:
+    """Each public name but those of the exceptions stands in the caller's file."""
+    tree = ast.parse(Path(USER).read_text())
+    assert (
+        NAMES - {node.attr for node in ast.walk(tree) if isinstance(node, ast.Attribute)} == set()
+    )

@@ -80,7 +80,7 @@ def test_broken_off(monkeypatch: pytest.MonkeyPatch) -> None:
     """Ctrl-C leaves the call alone, and the network as it was; the next call begins a session."""
     monkeypatch.setattr(loaded, "MOST_LOST_AT_ONCE", 0)
     library: Any = loaded.load(library_file())
-    losses, begun, until = library.losses[Part.ARC], threading.Event(), threading.Event()
+    losses, begun, until = library.losses[Ranked.ARCS], threading.Event(), threading.Event()
 
     def slow(*words: int) -> int:
         if not begun.is_set():
@@ -88,7 +88,7 @@ def test_broken_off(monkeypatch: pytest.MonkeyPatch) -> None:
             until.wait(SECONDS)
         return int(losses(*words))
 
-    monkeypatch.setitem(library.losses, Part.ARC, slow)
+    monkeypatch.setitem(library.losses, Ranked.ARCS, slow)
     with pipes() as network:
         plan = network.solve()
         with pytest.raises(KeyboardInterrupt), interrupted_soon(0.3):
@@ -103,8 +103,8 @@ def test_want_of_memory(monkeypatch: pytest.MonkeyPatch, bound: int) -> None:
         network.solve()
         with monkeypatch.context() as patched:
             library: Any = loaded.load(library_file())
-            for part in Part:
-                patched.setitem(library.losses, part, lambda *_: NO_MEMORY)
+            for ranked in Ranked:
+                patched.setitem(library.losses, ranked, lambda *_: NO_MEMORY)
             for ask in network.vital, network.vital_nodes:
                 with pytest.raises(dmf.NoMemory, match="^no memory$"):
                     ask()

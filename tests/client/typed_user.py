@@ -1,7 +1,8 @@
-"""A caller's file, which `mypy --strict` passes: what a network gives has the type of its nodes."""
+"""A caller's file, which makes every public call, and which `mypy --strict` passes: what a network
+gives has the type of its nodes."""
 
 from decimal import Decimal
-from typing import Tuple
+from typing import Any, List, Tuple
 
 import dmf
 
@@ -49,11 +50,77 @@ def tables(path: str) -> None:
     try:
         with dmf.read_table(path, source="lake", sink="sea", columns={"tail": "from"}) as table:
             print(table.solve().value, table.unit, table.notes, table.sources, table.limits)
+            network: dmf.TableNetwork = table
+            print(network.sinks, network.extra["remark"][0].upper())
     except dmf.TableFault as fault:
         print(fault.line, fault.column_name, [other.reason for other in fault.others])
     with dmf.new_project(path) as project, dmf.open_project(project.path) as again:
         compared: dmf.Comparison = again.compare("base", "first")
         print(list(compared.lines()))
+        try:
+            project_steps(project)
+        except dmf.ProjectFault as fault:
+            print(str(fault).upper())
+
+
+def found(network: dmf.Network[str], cut: dmf.Cut[str]) -> dmf.Arc[str]:
+    """What new arcs would bring, and the flows in each form; the best arc to have twice."""
+    second: dmf.SecondArcs[str] = network.gains(top=1)
+    ways: dmf.NewArcs[str] = network.gains_of([("lake", "sea", 3)])
+    print([(tail.upper(), head, gain) for (tail, head, _), _, gain in ways], cut.capacity + 1)
+    plan = network.solve()
+    between: int = plan.between("lake", "sea")
+    keys: List[dmf.Arc[str]] = list(plan.keys())
+    print(between, keys[0].number + 1, keys[0].given_key, network.flow() == plan)
+    print(sum(plan.values()) + 1, network.sink.upper())
+    print(plan.array(), plan.frame(), plan.flow_matrix(), network.to_networkx(), network.plot())
+    lost: dmf.VitalArcs[str] = network.vital()
+    nodes: dmf.VitalNodes[str] = network.vital_nodes()
+    pairs: dmf.VitalPairs[str] = network.vital_pairs()
+    print(lost.losses, nodes.losses, pairs.losses)
+    return second.arcs[0]
+
+
+def graphs(graph: Any, matrix: Any, frame: Any) -> None:
+    """Networks and answers of other packages' types."""
+    networks: List[dmf.Network[str]] = [
+        dmf.from_networkx(graph, "lake", "sea"),
+        dmf.from_igraph(graph, "lake", "sea", infinite=99),
+        dmf.Network.from_frame(frame, "from", "to", "most", source="lake", sink="sea"),
+    ]
+    numbered: dmf.Network[int] = dmf.from_scipy(matrix, 0, 5)
+    most: dmf.MatrixFlow = dmf.maximum_flow(matrix, 0, 5)
+    edges: dmf.EdgeFlow = dmf.maximum_flow(graph, "lake", "sea")
+    print(most.flow_value, most.flow, edges.value, edges.flow[0], numbered.cut().side)
+    for network in networks:
+        network.end()
+    print(dmf.program().upper(), dmf.library() or "no library")
+
+
+def project_steps(project: dmf.OpenProject) -> None:
+    """Every step and question of a project."""
+    values: List[Any] = [
+        project.add("lake", "sea", 7, "Canal"),
+        project.cap("Canal", "+10 %"),
+        project.close("Canal"),
+        project.open("Canal"),
+        project.shut("mill"),
+        project.open_place("mill"),
+        project.undo(),
+        project.redo(),
+        project.new("Drought"),
+        project.go("base"),
+        project.value,
+    ]
+    project.copy("Other")
+    project.rename("Flood")
+    project.note("as measured")
+    project.delete("Drought")
+    project.report("report.html")
+    texts: List[str] = [*project.limit, *project.news, project.notes, project.scenario]
+    print(values, texts, project.scenarios, project.steps, project.unit, project.flow("Canal"))
+    print(project.compare("base", "Flood").lines(), project.cheapest(3, "cost"))
+    project.end()
 
 
 def main() -> None:
@@ -103,7 +170,13 @@ def main() -> None:
     with dmf.Network.from_arrays(*columns, source="lake", sink="sea", scale=100) as scaled:
         if isinstance(scaled, dmf.ScaledNetwork):
             answer: dmf.ScaledSolution[str] = scaled.solve()
-            print(exact + most, rest, answer.value, [arc.tail.upper() for arc in scaled.arcs[:2]])
+            print(
+                exact + most,
+                rest,
+                answer.value,
+                scaled.scale,
+                [arc.tail.upper() for arc in scaled.arcs[:2]],
+            )
     changes(network)
     with dmf.read("problem.max") as read:
         sides: list[str] = sorted(map(str, read.cut().side))

@@ -16,6 +16,7 @@ import dmf
 import pytest
 from broken_off import Call
 from broken_off_projects import PROJECT_CALLS, Kept, reopened, states
+from dmf.session import library
 
 pytestmark = pytest.mark.usefixtures("by_library")
 # How many bytecodes of a call are tried in the gate.
@@ -62,12 +63,21 @@ def places(request: pytest.FixtureRequest, count: int, seed: str) -> list[int]:
     return sorted({*Random(seed).sample(range(1, count + 1), IN_GATE), count, count - 1, count - 2})
 
 
+@pytest.fixture(params=[0, 10**9], ids=["beside", "at once"])
+def most_at_once(request: pytest.FixtureRequest, monkeypatch: pytest.MonkeyPatch) -> int:
+    """The most arcs of a network whose calls do not run in another thread."""
+    monkeypatch.setattr(library, "MOST_AT_ONCE", request.param)
+    return int(request.param)
+
+
 @pytest.mark.parametrize("history", [None, 6])
 @pytest.mark.parametrize("call", broken_off.CALLS)
-def test_networks(call: str, history: int | None, request: pytest.FixtureRequest) -> None:
+def test_networks(
+    call: str, history: int | None, most_at_once: int, request: pytest.FixtureRequest
+) -> None:
     make, counting = broken_off.CALLS[call], Breaking(0)
     wanted = broken_off.states(make, counting, history=history)
-    tried = places(request, counting.count, f"{call} {history}")
+    tried = places(request, counting.count, f"{call} {history} {most_at_once}")
     broken_off.judge(make, wanted, map(Breaking, tried), history=history)
 
 

@@ -10,11 +10,11 @@ from typing import TYPE_CHECKING, Any, NoReturn, Tuple, Union
 from . import arrays
 from .capacities import CapacityReader, Scale
 from .columns import Columns, Node
-from .errors import Refused, SessionEnded
-from .network_gains import GrowingNetwork
+from .errors import Refused
+from .network_sessions import RestartableNetwork
 from .rows import Whole, columns_of
 from .scaled_network import ScaledChanges
-from .session.base import Program, Way, bound, where
+from .session.base import Program, Session, Way, bound, where
 from .session.runners import chosen, start
 from .state import NetworkState
 
@@ -25,7 +25,7 @@ if TYPE_CHECKING:
 Row = Union[Tuple[Node, Node, Whole], Tuple[Node, Node, Whole, Hashable]]
 
 
-class Network(GrowingNetwork[Node]):
+class Network(RestartableNetwork[Node]):
     """A network with a flow on it, and its changes. At the beginning the flow is 0.
 
     The arcs are `(tail, head, capacity)` or `(tail, head, capacity, key)`, any number of them
@@ -262,11 +262,18 @@ class Network(GrowingNetwork[Node]):
         self._session.program = program
 
     @classmethod
-    def _of(cls, kept: NetworkState[Node], way: Way, path: str | None = None) -> Network[Node]:
-        """Return a network with a new session that has carried out the commands of `kept` on the
-        first problem, which is at this path if one is given."""
+    def _of(
+        cls,
+        kept: NetworkState[Node],
+        way: Way,
+        path: str | None = None,
+        session: Session | None = None,
+    ) -> Network[Node]:
+        """Return a network with a session that is in the state of `kept`, or else with a new one
+        that has carried out the commands of `kept` on the first problem, which is at this path if
+        one is given."""
         made = cls.__new__(cls)
-        made._begin(start(kept, way, path), kept)
+        made._begin(session or start(kept, way, path), kept)
         return made
 
     @staticmethod
@@ -319,8 +326,9 @@ class Network(GrowingNetwork[Node]):
         """Return another network in the same state: with the same arcs, changes and flow.
 
         What is done with one of them does not change the other. The handles of arcs that this one
-        has now name those of the copy too. The copy is a session of its own, which takes the same
-        problem and the same commands, so it takes as long as those took together.
+        has now name those of the copy too. The library copies the session, which takes time for
+        each arc. A program begins another session with the same problem and the same commands, so
+        it takes as long as those took together.
 
         Raises
         ------
@@ -334,60 +342,10 @@ class Network(GrowingNetwork[Node]):
         ...     other.solve().value, network.value
         (3, 0)
         """
-        self._ready()
-        copy = type(self)._of(self._kept.twin(), self._session.way)
+        kept, session = self._twin()
+        copy = type(self)._of(kept, self._session.way, session=session)
         copy._session.program = self._session.program
         return copy
-
-    def end(self) -> None:
-        """End the session. The network answers nothing after that.
-
-        Examples
-        --------
-        >>> network = Network([("a", "b", 3)], "a", "b")
-        >>> network.end()
-        >>> network.solve()
-        Traceback (most recent call last):
-        ...
-        dmf.SessionEnded: the session was ended
-        """
-        if not self._session.is_owned or self._why_over:
-            return
-        if self._is_running:
-            with contextlib.suppress(SessionEnded):
-                self._settle()
-        self._why_over = "the session was ended" if self._is_broken else self._session.why_ended
-        self._session.end()
-
-    def begin_again(self) -> int:
-        """Begin a new session if the last one has ended: by `end`, or since the program failed.
-
-        The network is as it was, with each flow and all that can be undone and redone: the new
-        session takes the first problem and the commands that led here, and takes as long as those
-        took together. A session that goes on stays as it is.
-
-        Returns
-        -------
-        int
-            The value of the flow.
-
-        Raises
-        ------
-        Error
-            What making a network raises.
-
-        Examples
-        --------
-        >>> network = Network([("a", "b", 3)], "a", "b")
-        >>> value = network.solve().value
-        >>> network.end()
-        >>> network.begin_again()
-        3
-        """
-        if not self._is_running:
-            self._why_over, self._is_broken = "", True
-        self._ready()
-        return self.value
 
     def __enter__(self) -> Network[Node]:
         return self

@@ -2,6 +2,8 @@
 
 from __future__ import annotations
 
+from array import array
+from collections.abc import Sequence
 from typing import TYPE_CHECKING
 
 from .arcs import OpenArcs
@@ -167,6 +169,10 @@ class VitalNetwork(ChangeableNetwork[Node]):
     @exclusive
     def _asked_values_without(self, part: Part) -> ValuesWithout | None:
         return self._session.values_without(part)
+
+    @exclusive
+    def _asked_losses(self, ranked: Ranked, columns: Sequence[array[int]]) -> array[int] | None:
+        return self._session.losses(ranked, columns)
 
     def _worst_without(self, ranked: Ranked, most: int, among: bytes) -> WorstWithout:
         """Return the greatest value without each of the worst, as `_values_without` does."""

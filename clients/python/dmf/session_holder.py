@@ -37,8 +37,8 @@ Method = TypeVar("Method", bound=Callable[..., Any])
 def exclusive(method: Method) -> Method:
     """Return a method that has the session, and the state kept beside it, to itself. The method
     raises `UsedByTwoThreads` if another call has them, and `UsedByTwoProcesses` in a forked
-    process. If an error such as Ctrl-C breaks the call off, the network is as it was before, and
-    the next call begins a new session."""
+    process. If an error such as Ctrl-C breaks the call off, the network is as it was before; unless
+    the session is known to be so too, the next call begins a new one."""
 
     @functools.wraps(method)
     def called(self: SessionHolder[Any], *words: Any, **named: Any) -> Any:
@@ -126,6 +126,12 @@ class SessionHolder(Generic[Node]):
     @exclusive
     def _ready(self) -> None:
         """Raise what every call raises if the session cannot be asked."""
+
+    @exclusive
+    def _twin(self) -> tuple[NetworkState[Node], Session | None]:
+        """Return another state like the present one, and a session in it, if the session can be
+        copied."""
+        return self._kept.twin(), self._session.copy()
 
     @exclusive
     def _try_cases(self, cases: Sequence[Sequence[Command]], found: list[int]) -> None:

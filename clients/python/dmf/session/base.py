@@ -7,6 +7,7 @@ import importlib
 import math
 import operator
 import os
+import time
 import weakref
 from array import array
 from collections.abc import Callable, Sequence
@@ -82,6 +83,11 @@ class Ranked(Enum):
     PAIRS = "pairs"
 
     @property
+    def one(self) -> str:
+        """Return the word for one of them."""
+        return self.value.removesuffix("s")
+
+    @property
     def column_count(self) -> int:
         """Return how many columns their numbers have."""
         return 2 if self is Ranked.PAIRS else 1
@@ -141,13 +147,22 @@ class Session:
         self._why_broken = ""
         # The process that began the session.
         self.owner = os.getpid()
-        # How many commands the session was given.
+        # How many commands the session was given, except those that are known to have left it as it
+        # was: to the library, questions in the caller's thread, and solves that were stopped.
         self.asked_count = 0
+        # How many seconds of a processor calls of the library took in other threads.
+        self._seconds_beside = 0.0
 
     @property
     def way(self) -> Way:
         """The program's path, or the library, that begins another session in the same way."""
         raise NotImplementedError
+
+    @property
+    def processor_seconds(self) -> float:
+        """Return how many seconds of a processor this thread took so far, and the calls that it
+        made in other threads. To read that takes microseconds, so each call does not."""
+        return time.thread_time() + self._seconds_beside
 
     @property
     def is_owned(self) -> bool:
@@ -161,6 +176,11 @@ class Session:
     def is_full_after(self, most: int) -> bool:
         """Return True if the session has taken more than `most` commands and takes few more."""
         return False
+
+    def copy(self) -> Session | None:
+        """Return a session in the same state, with the same changes before and after it, or None if
+        only a new session that repeats all commands gets there."""
+        return None
 
     def break_off(self, why: str) -> None:
         """End the session on behalf of a thread that waits for its answer or may ask it later: each
@@ -197,6 +217,12 @@ class Session:
     def values_without(self, part: Part) -> ValuesWithout | None:
         """Return the greatest value without each arc or node, or None if only a run of its own
         finds it: the session runs in the program, or its flow is not a maximum flow."""
+        return None
+
+    def losses(self, ranked: Ranked, columns: Sequence[array[int]]) -> array[int] | None:
+        """Return how much less the greatest value is without each of some arcs, nodes or pairs of
+        arcs, given by the columns of their numbers. Pairs with the same first arc should stand
+        together. Returns None as `values_without` does."""
         return None
 
     def worst_without(self, ranked: Ranked, most: int, among: bytes = b"") -> WorstWithout | None:

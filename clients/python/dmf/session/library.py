@@ -8,10 +8,10 @@ import functools
 import math
 from array import array
 from collections.abc import Callable, Sequence
-from itertools import compress, count
+from itertools import compress, count, islice
 from typing import Any
 
-from ..errors import Refused
+from ..errors import Error
 from ..history import Command
 from ..text.lexical import AMOUNTS, NODES
 from .base import (
@@ -29,33 +29,20 @@ from .base import (
     refused_line,
 )
 from .column_texts import problem_pieces
-from .library_calls import LONG, POINTER, SIZE, WORD, LibraryCalls, loading, open_library
-from .statuses import (
-    BAD_LENGTH,
-    BAD_TEXT,
-    FAULTS,
-    NO_MEMORY,
-    NOT_GREATEST,
-    OK,
-    REASONS,
-    SUM_TOO_LARGE,
-    TOO_MANY_ARCS,
-)
-from .worker_threads import Given, Handle, Job
+from .library_batches import TOGETHER, pieces, run, try_together
+from .library_calls import LONG, SIZE, WORD, LibraryCalls, loading, open_library, place_of
+from .library_gains import gains
+from .statuses import BAD_LENGTH, BAD_TEXT, FAULTS, NO_MEMORY, NOT_GREATEST, OK, REASONS, STOPPED
+from .stops import Flag, SolveStopped
+from .worker_threads import Given, Handle, Job, Unbegun
 
 # For networks with at most MOST_AT_ONCE arcs, all calls run in the caller's thread, where Ctrl-C
 # has to wait for the call to end, which takes milliseconds. For larger ones they run in another
-# thread, which Ctrl-C does not reach, except for steps over at most MOST_STEPS states, each of
-# which looks at each arc only a few times. What is lost without each arc takes longer to find, so
-# there the other thread begins at MOST_LOST_AT_ONCE arcs, and for pairs of arcs at
-# MOST_PAIRED_AT_ONCE.
+# thread, where a flag ends a solve, and any other call goes on after Ctrl-C; except for steps over
+# at most MOST_STEPS states, each of which looks at each arc only a few times. What is lost without
+# each arc takes longer to find, so there the other thread begins at MOST_LOST_AT_ONCE arcs, and for
+# pairs of arcs at MOST_PAIRED_AT_ONCE.
 MOST_AT_ONCE, MOST_LOST_AT_ONCE, MOST_PAIRED_AT_ONCE, MOST_STEPS = 20_000, 1_000, 100, 4
-
-# In how many calls the gains of new arcs are found at most, where there is no room for all of them
-# at once.
-MOST_ASKED = 16
-
-STEPS = "undo", "redo"
 
 
 class Library(LibraryCalls):
@@ -64,14 +51,14 @@ class Library(LibraryCalls):
     def begin(self, problem: ProblemColumns, most: int) -> LibrarySession:
         """Begin a session on a problem, in which at most `most` changes can be undone. Raises a
         `Refused` as the program does for the text of the problem."""
-        address, bad_arc = POINTER(), SIZE()
+        held, bad_arc = Handle(self.free), SIZE()
         columns = [
-            part for column in problem.columns() for part in (_place(column), len(problem.tails))
+            part for column in problem.columns() for part in (place_of(column), len(problem.tails))
         ]
-        places = ctypes.byref(address), ctypes.byref(bad_arc)
+        places = ctypes.byref(held.address), ctypes.byref(bad_arc)
         status = self.new(problem.nodes, problem.source, problem.sink, *columns, most, *places)
         if status == OK:
-            return LibrarySession(self, address.value or 0, len(problem.tails))
+            return LibrarySession(self, held, len(problem.tails))
         if status == NO_MEMORY:
             raise refused_line(REASONS[NO_MEMORY], None)
         # Only from the text does the library know which fault the program reports.
@@ -79,15 +66,15 @@ class Library(LibraryCalls):
 
     def begin_text(self, text: bytes, most: int) -> LibrarySession:
         """Begin a session on the text of a problem. Raises a `Refused` as the program does."""
-        address, line, fault = POINTER(), LONG(), WORD()
-        places = ctypes.byref(address), ctypes.byref(line), ctypes.byref(fault)
+        held, line, fault = Handle(self.free), LONG(), WORD()
+        places = ctypes.byref(held.address), ctypes.byref(line), ctypes.byref(fault)
         status = self.read(text, len(text), most, *places)
         if status == BAD_TEXT:
             reason = FAULTS[fault.value - 1]
             raise refused_line(reason, None if reason == REASONS[NO_MEMORY] else line.value)
         if status != OK:
             raise refused_line(REASONS[NO_MEMORY], None)
-        return LibrarySession(self, address.value or 0, self.arcs(address))
+        return LibrarySession(self, held, self.arcs(held.address))
 
 
 @functools.cache
@@ -102,12 +89,14 @@ def load(path: str) -> Library:
 class LibrarySession(Session):
     """A session of the library."""
 
-    def __init__(self, library: Library, address: int, arc_count: int) -> None:
+    def __init__(self, library: Library, held: Handle, arc_count: int) -> None:
         self._library = library
-        self._held = [Handle(library.free, address)]
+        self._held = [held]
         super().__init__(self._held.clear)
         self._arc_count = arc_count
         self._job: Job[Any] | None = None
+        # What ends a solve in another thread, if there was such a solve.
+        self._flag: Flag | None = None
 
     @property
     def way(self) -> Library:
@@ -129,21 +118,37 @@ class LibrarySession(Session):
             self.why_ended = why
             self.end()
 
+    def copy(self) -> LibrarySession:
+        return self._do(self._copied, most_at_once=math.inf, changes=False)
+
+    def _copied(self, held: Handle) -> LibrarySession:
+        copied = Handle(self._library.free)
+        status = self._library.copy(held.address, ctypes.byref(copied.address))
+        if status != OK:
+            raise refused_line(REASONS[status], None)
+        return LibrarySession(self._library, copied, self._arc_count)
+
     def _do(
-        self, work: Callable[..., Given], *words: Any, most_at_once: float | None = None
+        self,
+        work: Callable[..., Given],
+        *words: Any,
+        most_at_once: float | None = None,
+        changes: bool = True,
+        flag: Flag | None = None,
     ) -> Given:
         """Return what calls at the session's address return. They run in the caller's thread if the
-        network has at most `most_at_once` arcs, or MOST_AT_ONCE."""
+        network has at most `most_at_once` arcs, or MOST_AT_ONCE. `changes` says whether they may
+        change the session, and `flag` ends them, if anything does."""
         if self._why_broken:
             self.kill(self._why_broken)
         held = next(iter(self._held), None)
         if held is None:
             raise self.ended()
-        self.asked_count += 1
+        is_beside = self._arc_count > (MOST_AT_ONCE if most_at_once is None else most_at_once)
+        self.asked_count += changes or is_beside
         try:
-            most = MOST_AT_ONCE if most_at_once is None else most_at_once
-            is_beside = self._arc_count > most
-            given = self._do_beside(work, held, words) if is_beside else work(held, *words)
+            job = Job(work, held, words) if is_beside else None
+            given = work(held, *words) if job is None else self._do_beside(job, flag)
         except ValueError as error:
             self.kill("the session was ended, since dmf's answer was not understood")
             raise self.ended() from error
@@ -154,17 +159,29 @@ class LibrarySession(Session):
             raise self.ended()
         return given
 
-    def _do_beside(self, work: Callable[..., Given], held: Handle, words: tuple[Any, ...]) -> Given:
-        job = Job(work, held, words)
+    def _do_beside(self, job: Job[Given], flag: Flag | None) -> Given:
+        """Return the result of a job. If Ctrl-C interrupts the wait for it, the flag ends the job;
+        a job without a flag goes on."""
         self._job = job
         try:
             if not self._why_broken:
                 job.wait()
             if self._why_broken:
+                if flag:
+                    flag.put_up()
                 self.kill(self._why_broken)
                 raise self.ended()
             return job.given()
+        except Error:
+            raise
+        except BaseException:
+            if flag and isinstance(job.give_up(flag.put_up), (SolveStopped, Unbegun)):
+                flag.take_down()
+                # The last step: the session is as it was, with nothing left to do.
+                self.asked_count -= 1
+            raise
         finally:
+            self._seconds_beside += job.seconds
             self._job = None
 
     def _carried_out(self, held: Handle, command: Command, at: object = None) -> int:
@@ -175,38 +192,57 @@ class LibrarySession(Session):
         return self._library.value(held.address)
 
     def step(self, command: Command, at: object = None) -> int:
-        is_short = command[0] in STEPS and command[1] <= MOST_STEPS
+        word, *numbers = command
+        if word == "solve" and self._arc_count > MOST_AT_ONCE:
+            flag = self._own_flag()
+            return self._do(self._solved_until, flag, flag=flag)
+        is_short = word in ("undo", "redo") and numbers[0] <= MOST_STEPS
         most = math.inf if is_short else None
         return self._do(self._carried_out, command, at, most_at_once=most)
+
+    def _own_flag(self) -> Flag:
+        try:
+            self._flag = self._flag or Flag(self._library)
+        except MemoryError as error:
+            raise refused(str(error), "solve", None) from None
+        return self._flag
+
+    def _solved_until(self, held: Handle, flag: Flag) -> int:
+        status = self._library.solve_until(held.address, flag.solving)
+        if status == STOPPED:
+            raise SolveStopped
+        if status != OK:
+            raise refused(REASONS[status], "solve", None)
+        return self._library.value(held.address)
 
     def carry_out(self, commands: Sequence[Command]) -> int:
         return self._do(self._carried_on, commands) if commands else 0
 
     def _carried_on(self, held: Handle, commands: Sequence[Command]) -> int:
-        value = 0
-        for command in commands:
+        values = array(AMOUNTS, [0])
+        for piece in pieces(commands, self._arc_count > MOST_AT_ONCE):
             if self._why_broken:
                 break
-            try:
-                value = self._carried_out(held, command)
-            except Refused as error:
+            status, values = run(self._library, held.address, piece)
+            if status != OK:
+                line = command_line(piece[len(values)])
                 self._why_broken = (
-                    f"the session could not be restarted: `{command_line(command)}` was refused: "
-                    f"{error.text}"
+                    f"the session could not be restarted: `{line}` was refused: {REASONS[status]}"
                 )
-        return value
+        return values[-1] if values else 0
 
     def flows(self, value: int, open_count: int) -> array[int]:
-        return self._do(self._flows, value, most_at_once=math.inf)
+        return self._do(self._flows, value, most_at_once=math.inf, changes=False)
 
     def _flows(self, held: Handle, value: int) -> array[int]:
         judged(self._library.value(held.address), value)
         flows = array(AMOUNTS, [0]) * self._library.arcs(held.address)
-        judged(self._library.flows(held.address, _place(flows), len(flows)), OK)
+        # Every click on a page calls this, so no other module is called for it.
+        judged(self._library.flows(held.address, flows.buffer_info()[0], len(flows)), OK)
         return flows
 
     def cut(self) -> tuple[int, list[int]]:
-        return self._do(self._cut)
+        return self._do(self._cut, changes=False)
 
     def _cut(self, held: Handle) -> tuple[int, list[int]]:
         marks, status = self._side(held)
@@ -219,39 +255,53 @@ class LibrarySession(Session):
         """Return a mark for each node, which is 1 on the source's side of the smallest minimum cut,
         and the library's status."""
         marks = array("B", bytes(self._library.nodes(held.address)))
-        return marks, self._library.side(held.address, _place(marks), len(marks))
+        return marks, self._library.side(held.address, marks.buffer_info()[0], len(marks))
 
     def maximum_flow(self, want_flows: bool, want_side: bool) -> Solved:
-        return self._do(self._maximum_flow, want_flows, want_side)
+        return self._do(self._maximum_flow, want_flows, want_side, changes=False)
 
     def _maximum_flow(self, held: Handle, want_flows: bool, want_side: bool) -> Solved:
         address, value = held.address, LONG()
         flows = array(AMOUNTS, [0]) * (self._library.arcs(address) if want_flows else 0)
         marks = array("B", bytes(self._library.nodes(address) if want_side else 0))
-        columns = _place(flows), len(flows), _place(marks), len(marks)
+        columns = place_of(flows), len(flows), place_of(marks), len(marks)
         status = self._library.maximum_flow(address, ctypes.byref(value), *columns)
         if status != OK:
             raise refused_line(REASONS[status], None)
         return Solved(value.value, flows, list(compress(count(1), marks)))
 
     def values_without(self, part: Part) -> ValuesWithout | None:
-        return self._do(self._values_without, part, most_at_once=MOST_LOST_AT_ONCE)
+        return self._do(self._values_without, part, most_at_once=MOST_LOST_AT_ONCE, changes=False)
 
     def _values_without(self, held: Handle, part: Part) -> ValuesWithout | None:
-        many = (self._library.arcs if part is Part.ARC else self._library.nodes)(held.address)
-        numbers, losses = array(NODES, range(1, many + 1)), array(AMOUNTS, [0]) * many
-        columns = _place(numbers), many, _place(losses), many
-        status = self._library.losses[part](held.address, *columns)
+        is_arc = part is Part.ARC
+        count = (self._library.arcs if is_arc else self._library.nodes)(held.address)
+        numbers = array(NODES, range(1, count + 1))
+        losses = self._losses(held, Ranked.ARCS if is_arc else Ranked.NODES, [numbers])
+        if losses is None:
+            return None
+        value = self._library.value(held.address)
+        return ValuesWithout(value, array(AMOUNTS, [value - loss for loss in losses]))
+
+    def losses(self, ranked: Ranked, columns: Sequence[array[int]]) -> array[int] | None:
+        most = _most_at_once(ranked)
+        return self._do(self._losses, ranked, columns, most_at_once=most, changes=False)
+
+    def _losses(
+        self, held: Handle, ranked: Ranked, columns: Sequence[array[int]]
+    ) -> array[int] | None:
+        losses = array(AMOUNTS, [0]) * len(columns[0])
+        places = [part for column in (*columns, losses) for part in (place_of(column), len(column))]
+        status = self._library.losses[ranked](held.address, *places)
         if status == NOT_GREATEST:
             return None
         if status != OK:
             raise refused_line(REASONS[status], None)
-        value = self._library.value(held.address)
-        return ValuesWithout(value, array(AMOUNTS, (value - loss for loss in losses)))
+        return losses
 
     def worst_without(self, ranked: Ranked, most: int, among: bytes = b"") -> WorstWithout | None:
-        at_once = MOST_PAIRED_AT_ONCE if ranked is Ranked.PAIRS else MOST_LOST_AT_ONCE
-        return self._do(self._worst_without, ranked, most, among, most_at_once=at_once)
+        words, most_at_once = (ranked, most, among), _most_at_once(ranked)
+        return self._do(self._worst_without, *words, most_at_once=most_at_once, changes=False)
 
     def _worst_without(
         self, held: Handle, ranked: Ranked, most: int, among: bytes
@@ -262,7 +312,7 @@ class LibrarySession(Session):
         numbers = [array(NODES, [0]) * most for _ in range(ranked.column_count)]
         losses, found = array(AMOUNTS, [0]) * most, SIZE()
         columns: list[Any] = [
-            part for column in (*numbers, losses) for part in (_place(column), most)
+            part for column in (*numbers, losses) for part in (place_of(column), most)
         ]
         if ranked is not Ranked.NODES:
             columns = [among, len(among), *columns]
@@ -277,57 +327,25 @@ class LibrarySession(Session):
         return WorstWithout(value, tuple(numbers), without)
 
     def gains(self, arcs: ArcColumns) -> array[int] | None:
-        return self._do(self._gains, arcs, most_at_once=MOST_LOST_AT_ONCE)
+        return self._do(self._gains, arcs, most_at_once=MOST_LOST_AT_ONCE, changes=False)
 
     def _gains(self, held: Handle, arcs: ArcColumns) -> array[int] | None:
-        """Return the gains of all these arcs. The library is asked for those that leave the
-        smallest minimum cut, since the others gain nothing, and need no room in it."""
         marks, status = self._side(held)
         if status == NOT_GREATEST:
             return None
         if status != OK:
             raise refused_line(REASONS[status], None)
-        ends = enumerate(zip(arcs.tails, arcs.heads))
-        leaving = [at for at, (tail, head) in ends if marks[tail - 1] > marks[head - 1]]
-        chosen = (array(it.typecode, [it[at] for at in leaving]) for it in arcs)
-        found = self._gains_together(held, ArcColumns(*chosen), MOST_ASKED)
-        if found is None:
-            return None
-        gains = array(AMOUNTS, [0]) * len(arcs.tails)
-        for at, gain in zip(leaving, found):
-            gains[at] = gain
-        return gains
-
-    def _gains_together(self, held: Handle, arcs: ArcColumns, most: int) -> array[int] | None:
-        """Return the gains of all these arcs at once, or of each half of them where the library can
-        take no more together, with at most `most` calls that tell gains."""
-        count = len(arcs.tails)
-        gains = array(AMOUNTS, [0]) * count
-        columns = [part for column in (*arcs, gains) for part in (_place(column), count)]
-        status = self._library.new_arc_gains(held.address, *columns)
-        if status == OK:
-            return gains
-        if status in (TOO_MANY_ARCS, SUM_TOO_LARGE) and count > 1 and most > 1:
-            for half in slice(count // 2), slice(count // 2, None):
-                chosen = ArcColumns(*(it[half] for it in arcs))
-                found = self._gains_together(held, chosen, most // 2)
-                if found is None:
-                    return None
-                gains[half] = found
-            return gains
-        if status in (NOT_GREATEST, TOO_MANY_ARCS, SUM_TOO_LARGE):
-            return None
-        raise refused_line(REASONS[status], None)
+        return gains(self._library, held.address, arcs, marks)
 
     def problem(self) -> bytes:
-        return self._do(self._problem)
+        return self._do(self._problem, changes=False)
 
     def _problem(self, held: Handle) -> bytes:
         length = SIZE()
         text = array("B")
         while True:
             status = self._library.problem(
-                held.address, _place(text), len(text), ctypes.byref(length)
+                held.address, place_of(text), len(text), ctypes.byref(length)
             )
             if status == OK:
                 return text.tobytes()
@@ -342,32 +360,16 @@ class LibrarySession(Session):
         self, held: Handle, cases: Sequence[Sequence[Command]], value: int, found: list[int]
     ) -> None:
         """Try the cases. Raises a ValueError if something in a case is refused, or if the network
-        has another value at the end; then none of their values is used. Numbers are ctypes objects,
-        since ctypes would convert each number again."""
-        address, calls, value_of = (
-            POINTER(held.address),
-            self._library.commands,
-            self._library.value,
-        )
-        solve, undo = calls["solve"], calls["undo"]
-        back = [LONG(steps) for steps in range(2 + max(map(len, cases), default=0))]
-        begin = len(found)
-        for commands in cases:
-            if self._why_broken:
-                break
-            refusals = OK
-            for word, *numbers in commands:
-                refusals |= calls[word](address, *numbers)
-            refusals |= solve(address)
-            solved = value_of(address)
-            if refusals | undo(address, back[len(commands) + 1]):
-                raise ValueError
-            found.append(solved)
-        if value_of(address) != value:
+        has another value at the end; then none of their values is used."""
+        begin, together = len(found), TOGETHER if self._arc_count <= MOST_AT_ONCE else 1
+        left = iter(cases)
+        while not self._why_broken and (piece := [*islice(left, together)]):
+            try_together(self._library, held.address, piece, found)
+        if self._library.value(held.address) != value:
             del found[begin:]
             raise ValueError
 
 
-def _place(column: array[int]) -> int:
-    """Return the address of an array's items."""
-    return column.buffer_info()[0]
+def _most_at_once(ranked: Ranked) -> int:
+    """Return how many arcs a network has at most whose losses are found in the caller's thread."""
+    return MOST_PAIRED_AT_ONCE if ranked is Ranked.PAIRS else MOST_LOST_AT_ONCE

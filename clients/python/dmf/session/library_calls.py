@@ -5,12 +5,13 @@ from __future__ import annotations
 
 import contextlib
 import ctypes
+from array import array
 from collections.abc import Callable, Iterator
 from typing import Any
 
 from ..errors import NoProgram
 from ..text.lexical import display
-from .base import Part, Ranked
+from .base import Ranked
 from .versions import ABI, fits, other_version
 
 # The commands that calls of the library carry out, each with how many numbers follow its word.
@@ -28,11 +29,19 @@ class LibraryCalls:
         ends = [WORD, WORD, WORD, *[POINTER, SIZE] * 3, WORD, POINTER, POINTER]
         self.new = self._call("dmf_session_new", ends)
         self.read = self._call("dmf_session_read", [POINTER, SIZE, WORD, POINTER, POINTER, POINTER])
+        self.copy = self._call("dmf_session_copy", [POINTER, POINTER])
         self.free = self._call("dmf_session_free", [POINTER], None)
         self.commands = {
             word: self._call(f"dmf_session_{word}", [POINTER, *[LONG] * many])
             for word, many in COMMANDS.items()
         }
+        self.run = self._call("dmf_session_run", [POINTER, *[POINTER, SIZE] * 5, POINTER])
+        self.solve_until = self._call("dmf_session_solve_until", [POINTER, POINTER])
+        self.stop_new = self._call("dmf_stop_new", [POINTER])
+        self.stop_share = self._call("dmf_stop_share", [POINTER, POINTER])
+        self.stop_raise, self.stop_clear, self.stop_free = (
+            self._call(f"dmf_stop_{word}", [POINTER], None) for word in ("raise", "clear", "free")
+        )
         self.value = self._call("dmf_session_value", [POINTER], LONG)
         self.nodes = self._call("dmf_session_nodes", [POINTER])
         self.arcs = self._call("dmf_session_arcs", [POINTER], SIZE)
@@ -41,8 +50,11 @@ class LibraryCalls:
         found = [POINTER, POINTER, *[POINTER, SIZE] * 2]
         self.maximum_flow = self._call("dmf_session_maximum_flow", found)
         self.losses = {
-            part: self._call(f"dmf_session_{part.value}_losses", [POINTER, *[POINTER, SIZE] * 2])
-            for part in Part
+            ranked: self._call(
+                f"dmf_session_{ranked.one}_losses",
+                [POINTER, *[POINTER, SIZE] * (ranked.column_count + 1)],
+            )
+            for ranked in Ranked
         }
         self.worst = {
             ranked: self._call(
@@ -66,6 +78,11 @@ def _array_count(ranked: Ranked) -> int:
     """Return how many arrays the call that ranks these takes: numbers, losses and, for arcs, the
     marks of those that are chosen."""
     return ranked.column_count + (1 if ranked is Ranked.NODES else 2)
+
+
+def place_of(column: array[int]) -> int:
+    """Return the address of an array's items."""
+    return column.buffer_info()[0]
 
 
 def open_library(path: str) -> ctypes.CDLL:

@@ -3,7 +3,7 @@
 from __future__ import annotations
 
 OK, NO_MEMORY, NOT_GREATEST, BAD_LENGTH, BAD_TEXT = 0, 1, 9, 10, 12
-TOO_MANY_ARCS, SUM_TOO_LARGE = 5, 6
+TOO_MANY_ARCS, SUM_TOO_LARGE, STOPPED = 5, 6, 16
 # The reasons for a refusal in the program's words, by their numbers in dmf.h.
 REASONS = {
     NO_MEMORY: "no memory",

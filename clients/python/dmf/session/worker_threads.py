@@ -4,8 +4,10 @@ from __future__ import annotations
 
 import _thread
 import contextlib
+import ctypes
 import functools
 import os
+import time
 import weakref
 from collections.abc import Callable
 from typing import Any, Generic, TypeVar
@@ -17,20 +19,21 @@ Given = TypeVar("Given")
 
 
 class Handle:
-    """The address of a session of the library, which is freed when nothing refers to this object
-    any more. Every call refers to it, so that the session is never freed during a call. That needs
-    no lock, which Ctrl-C could interrupt."""
+    """The place for the address of a session or a stop of the library, which is freed when nothing
+    refers to this object any more. Every call refers to it, so that nothing is freed during a call.
+    That needs no lock, which Ctrl-C could interrupt."""
 
-    def __init__(self, free: Callable[[int], int], address: int) -> None:
-        self.address = address
+    def __init__(self, free: Callable[..., int]) -> None:
+        """Make the place, into which a call of the library then writes."""
+        self.address = ctypes.c_void_p()
         # When the interpreter ends, the system frees everything at once, even while a call is
         # running.
-        weakref.finalize(self, _free, free, address, os.getpid()).atexit = False
+        weakref.finalize(self, _free, free, self.address, os.getpid()).atexit = False
 
 
-def _free(free: Callable[[int], int], address: int, owner: int) -> None:
-    """Free a session, in the process that began it."""
-    if os.getpid() == owner:
+def _free(free: Callable[..., int], address: ctypes.c_void_p, owner: int) -> None:
+    """Free what is at an address, if anything is, in the process that made it."""
+    if address and os.getpid() == owner:
         free(address)
 
 
@@ -81,9 +84,13 @@ def threads() -> Threads:
 os.register_at_fork(after_in_child=threads.cache_clear)
 
 
+class Unbegun(Exception):
+    """Work was given up before it began."""
+
+
 class Job(Generic[Given]):
     """Calls at a session in another thread. The caller's thread waits for the result, and can stop
-    waiting."""
+    waiting, or wait for the end of work that it has told to end."""
 
     def __init__(self, work: Callable[..., Given], held: Handle, words: tuple[Any, ...]) -> None:
         self._work = work
@@ -91,9 +98,16 @@ class Job(Generic[Given]):
         self._words = words
         self._given: list[Given] = []
         self._error: BaseException | None = None
-        # To wait for this lock is to wait for the work.
-        self._is_going_on = _thread.allocate_lock()
+        # How many seconds of a processor the work took.
+        self.seconds = 0.0
+        # Whoever takes this entry decides whether the work begins: the thread that would do it, or
+        # a caller who gives it up before.
+        self._claims: list[None] = [None]
+        # To wait for the first lock is to wait for the work, or for `leave`. The second one is for
+        # a caller whose wait was interrupted, who may have the first one by then.
+        self._is_going_on, self._has_not_ended = _thread.allocate_lock(), _thread.allocate_lock()
         self._is_going_on.acquire()
+        self._has_not_ended.acquire()
 
     def wait(self) -> None:
         """Begin the work, and wait until it is done or `leave` is called. Ctrl-C interrupts only
@@ -106,12 +120,35 @@ class Job(Generic[Given]):
         with contextlib.suppress(RuntimeError):
             self._is_going_on.release()
 
+    def give_up(self, tell: Callable[[], None]) -> BaseException | None:
+        """Keep work from beginning, and return an `Unbegun`; or `tell` it to end, wait until it
+        does, and return what it raised, if anything. May be called once, after `wait` was
+        interrupted."""
+        if self._claim():
+            return Unbegun()
+        tell()
+        self._has_not_ended.acquire()
+        return self._error
+
+    def _claim(self) -> bool:
+        """Return True if nobody else has decided whether the work begins."""
+        try:
+            self._claims.pop()
+        except IndexError:
+            return False
+        return True
+
     def run(self) -> None:
-        """Do the work."""
+        """Do the work, unless it was given up."""
+        if not self._claim():
+            return
+        began = time.thread_time()
         try:
             self._given.append(self._work(self._held, *self._words))
         except BaseException as error:
             self._error = error
+        self.seconds = time.thread_time() - began
+        self._has_not_ended.release()
 
     def given(self) -> Given:
         """Return the result of the work, or raise what it raised."""

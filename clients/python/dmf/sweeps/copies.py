@@ -2,9 +2,10 @@
 
 from __future__ import annotations
 
+import functools
 import threading
 import time
-from collections.abc import Callable
+from collections.abc import Callable, Sequence
 from itertools import takewhile
 from typing import Any, NamedTuple, Tuple, Union
 
@@ -13,10 +14,11 @@ from ..errors import Error, NoProgram, SessionEnded
 from ..history import Command as Numbered
 from ..network import Network
 from ..rows import whole
-from ..session.base import MOST_COMMANDS, FilePath, Way
+from ..session.base import MOST_COMMANDS, PROGRAM, FilePath, Way
 from ..session.fresh import FreshSession
 from ..state import NetworkState
 from ..text.lexical import LARGEST, MOST_ARCS
+from .case_losses import CaseLosses
 
 # A command of a case: ("cap", arc, capacity), ("close", arc), ("open", arc), ("shut", node) or
 # ("add", tail, head, capacity).
@@ -62,7 +64,7 @@ def _try(network: Network[Any], case: Plain, want_cut: bool) -> CaseAnswer:
 
 
 def _try_together(
-    network: Network[Any], cases: list[list[Numbered]], answers: list[CaseAnswer]
+    network: Network[Any], answers: list[CaseAnswer], cases: Sequence[list[Numbered]]
 ) -> None:
     """Try cases together, and append the answer to each. Raises `SessionEnded` if one is
     refused."""
@@ -101,27 +103,49 @@ class SolvedCopy:
         # How much may be added to the capacities.
         self._room = LARGEST - sum(kept.first_capacities())
         self.network: Network[Any] | None = None
+        # What asks for the values after cases, if a session of the library may know them.
+        can_ask = anew is None and not isinstance(way, PROGRAM)
+        self._losses = CaseLosses(kept) if can_ask else None
         self.used = time.monotonic()
 
     def answers(self, cases: list[Plain | Error], want_cut: bool) -> list[CaseAnswer]:
         """Return the answers to cases. Cases that no session can refuse are sent together, so that
-        a program need not wait for the next one. If the program ends during one of these, that case
-        is tried once more."""
+        a program need not wait for the next one; the library may be asked for their values. If the
+        session ends during one of these, that case is tried once more."""
         answers: list[CaseAnswer] = []
+        if self._losses:
+            self._losses.has_asked = False
         while len(answers) < len(cases):
             together: list[list[Numbered]] = []
             if not want_cut:
                 together.extend(takewhile(bool, map(self._commands, cases[len(answers) :])))
             tries = TRIES
-            if len(together) > 1:
+            if len(together) > 1 or together and self._losses:
                 try:
-                    _try_together(self._solved(), together, answers)
+                    self._answer_together(together, answers)
                     continue
                 except Error:
                     self.end()
                     tries = 1
             answers.append(self._answer(cases[len(answers)], want_cut, tries))
         return answers
+
+    @property
+    def look(self) -> float:
+        """Return how many seconds a look at all arcs took for the last answers, or 0 if the library
+        was not asked for values."""
+        return self._losses.look if self._losses else 0.0
+
+    def _answer_together(self, cases: list[list[Numbered]], answers: list[CaseAnswer]) -> None:
+        """Record the answers to cases that no session can refuse. Raises `SessionEnded`."""
+        network = self._solved()
+        attempt = functools.partial(_try_together, network, answers)
+        if self._losses is None:
+            attempt(cases)
+        else:
+            self._losses.find(
+                network, cases, attempt, lambda values: answers.extend(map(CaseAnswer, values))
+            )
 
     def _answer(self, case: Plain | Error, want_cut: bool, tries: int) -> CaseAnswer:
         """Return the answer to a case. If the session ends, the case is tried once more, if it may
@@ -196,7 +220,10 @@ class SolvedCopy:
                 if self._is_over:
                     network._stop("the sweep was ended")
             if self._anew is None:
+                solving = network._session.processor_seconds
                 network.solve()
+                if self._losses:
+                    self._losses.begin(network._session.processor_seconds - solving)
             self.begin_seconds += time.monotonic() - began
         return self.network
 

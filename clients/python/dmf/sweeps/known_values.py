@@ -16,6 +16,7 @@ from ..rows import whole
 from ..session.base import PROGRAM, ArcColumns, Part
 from ..state import NetworkState
 from ..text.lexical import AMOUNTS, LARGEST, MOST_ARCS, NODES
+from .case_losses import is_there_and_back
 from .copies import CaseAnswer, Plain
 from .each import Each
 from .pool import MOST_AT_ONCE, Pending, Tries
@@ -102,20 +103,13 @@ class _Without:
 
     def arcs(self, case: list[Any]) -> int | None:
         """Return the value without the open arc that a case closes, or the two arcs of a case that
-        lead there and back.
-
-        Without two such arcs the lesser of their two values is left: the greatest value is a
-        concave function of what flows there, less what flows back."""
+        lead there and back."""
         numbers = [int(number) for _, number in case]
         if any(number in self.kept.closed for number in numbers):
             return None
-        if len(numbers) == 2 and numbers[0] != numbers[1]:
-            there, back = map(self.kept.handle, numbers)
-            if (there.tail, there.head) != (back.head, back.tail):
-                return None
-        elif len(numbers) != 1:
-            return None
-        return min(self.values[number - 1] for number in numbers)
+        if len(numbers) == 1 or len(numbers) == 2 and is_there_and_back(self.kept, *numbers):
+            return min(self.values[number - 1] for number in numbers)
+        return None
 
     def node(self, case: list[Any]) -> int | None:
         """Return the value without the node that a case shuts, unless that is the source or the

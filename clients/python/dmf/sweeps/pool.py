@@ -27,8 +27,11 @@ if TYPE_CHECKING:
 # How many cases an executor is given at first, and how many pieces of that size wait for each of
 # its workers.
 PIECE, WAITING = 16, 2
-# Later, a piece has as many cases as are tried in SOON seconds, but at most MOST_AT_ONCE.
+# Later, a piece has as many cases as are tried in SOON seconds, but at most MOST_AT_ONCE. If its
+# values are asked for, the library first looks at all arcs: such a piece may take TIMES as long as
+# that, and may have a PIECES-th as many cases as there are arcs.
 SOON, MOST_AT_ONCE = 0.1, 256
+TIMES, PIECES = 4, 128
 # How long a copy in an executor's process waits for the next cases before it is ended, in seconds.
 PATIENCE = 30.0
 
@@ -39,16 +42,19 @@ class Tries:
 
     first = 1
 
-    def __init__(self, most: int) -> None:
+    def __init__(self, most: int, arc_count: int = 0) -> None:
         self.most = most
+        self._most_asked = max(MOST_AT_ONCE, arc_count // PIECES)
         self.size = self.first
         self._answered = 0
 
-    def learn(self, count: int, seconds: float) -> None:
-        """Record how long `count` cases took."""
+    def learn(self, count: int, seconds: float, look: float = 0.0) -> None:
+        """Record how long `count` cases took, and how long a look at all arcs took if values were
+        asked for."""
         self._answered += count
-        soon = int(SOON * count / max(seconds, 1e-9))
-        self.size = max(1, min(soon, max(self.first, self._answered // self.most), MOST_AT_ONCE))
+        most = self._most_asked if look else MOST_AT_ONCE
+        soon = int(max(SOON, TIMES * look) * count / max(seconds, 1e-9))
+        self.size = max(1, min(soon, max(self.first, self._answered // self.most), most))
 
     def begin(self, cases: list[Plain | Error]) -> Pending:
         """Begin cases, and return a function that waits for their answers."""
@@ -88,7 +94,7 @@ class LocalPool(Tries):
         # Imported here: it takes 1 MB, and nothing else needs it.
         from concurrent.futures import ThreadPoolExecutor
 
-        super().__init__(4 * jobs)
+        super().__init__(4 * jobs, kept.arc_count)
         self._count = count
         self._begin_copy = functools.partial(SolvedCopy, kept, way, anew=anew, kind=kind)
         self._want_cut = want_cut
@@ -120,11 +126,12 @@ class LocalPool(Tries):
             return copy.answers(cases, self._want_cut)
         finally:
             seconds = time.monotonic() - began - (copy.begin_seconds - before)
+            look = copy.look
             with self._changed:
                 self._free.append(copy)
                 self._note(len(cases), seconds, copy.begin_seconds - before, is_first=not before)
                 self._changed.notify_all()
-            self.learn(len(cases), seconds)
+            self.learn(len(cases), seconds, look)
 
     def _note(self, count: int, seconds: float, begin_seconds: float, is_first: bool) -> None:
         """Record how long `count` cases took, and how long their copy took to begin before them."""
@@ -206,7 +213,7 @@ class ExecutorPool(Tries):
         self._name = hashlib.sha256(self._sent).hexdigest()
         # At first one piece for each worker, which is sent with the network.
         self._workers = _workers(executor)
-        super().__init__(self._workers)
+        super().__init__(self._workers, len(sent.capacities))
         self._futures: list[Future[Any]] = []
         # The pieces that are sent again, with the network, because their process did not have it
         # yet.
@@ -235,10 +242,10 @@ class ExecutorPool(Tries):
         if piece.error is not None:
             raise piece.error
         answers: list[CaseAnswer]
-        answers, seconds = piece.future.result()
+        answers, seconds, look = piece.future.result()
         self._futures.remove(piece.future)
         self.most = WAITING * self._workers
-        self.learn(len(answers), seconds)
+        self.learn(len(answers), seconds, look)
         return answers
 
     def _send_again(self, piece: _Batch) -> None:
@@ -334,9 +341,9 @@ os.register_at_fork(after_in_child=_forget_copies)
 
 def _answers_there(
     name: str, sent: bytes | None, asked: Any
-) -> tuple[list[CaseAnswer], float] | None:
-    """Answer cases in the process of an executor. Returns the answers and the seconds that they
-    took, or None if the process needs the network first."""
+) -> tuple[list[CaseAnswer], float, float] | None:
+    """Answer cases in the process of an executor. Returns the answers, the seconds that they took
+    and those of a look at all arcs, or None if the process needs the network first."""
     with _free_lock:
         copies = _free.get(name, [])
         copy = copies.pop() if copies else None
@@ -357,7 +364,8 @@ def _answers_there(
     cases, want_cut = pickle.loads(asked) if isinstance(asked, bytes) else asked
     try:
         began = time.monotonic()
-        return copy.answers(cases, want_cut), time.monotonic() - began
+        answers = copy.answers(cases, want_cut)
+        return answers, time.monotonic() - began, copy.look
     finally:
         copy.used = time.monotonic()
         with _free_lock:
