@@ -43,6 +43,8 @@ def browser() -> Iterator[Any]:
     options.add_argument(f"--host-resolver-rules=MAP {OTHER_NAME} 127.0.0.1")
     options.set_capability("goog:loggingPrefs", {"browser": "ALL"})
     made = webdriver.Chrome(service=Service("/usr/bin/chromedriver"), options=options)
+    # On a loaded machine a page that paints may not answer for longer than the usual 30 seconds.
+    made.set_script_timeout(SECONDS)
     yield made
     made.quit()
 
@@ -53,6 +55,21 @@ def set_width(driver: Any, width: int) -> None:
         "Emulation.setDeviceMetricsOverride",
         {"width": width, "height": 900, "deviceScaleFactor": 1, "mobile": width == 400},
     )
+
+
+def dialog(driver: Any) -> Any:
+    """The dialog of a page, once it is open."""
+    from selenium.webdriver.support import expected_conditions
+    from selenium.webdriver.support.wait import WebDriverWait
+
+    waiting: Any = WebDriverWait
+    conditions: Any = expected_conditions
+    return waiting(driver, SECONDS, LATE).until(conditions.alert_is_present())
+
+
+def told_loss(value: int, left: int) -> str:
+    """What the page says of an act before it is done that leaves this of a value."""
+    return f"{value} → {left}: {f'{value - left} less' if left < value else 'no change'}"
 
 
 class Page:
@@ -73,12 +90,12 @@ class Page:
         self.settle()
 
     def settle(self) -> None:
-        """Waits until nothing is being done."""
-        self.wait(
-            lambda: self.driver.execute_script(
-                "return document.getElementById('main').getAttribute('aria-busy') === 'false'"
-            )
+        """Waits until nothing is being done, and a picture that was moved is drawn again."""
+        script = (
+            "return document.getElementById('main').getAttribute('aria-busy') === 'false' && "
+            "!document.querySelector('#layers.gliding')"
         )
+        self.wait(lambda: self.driver.execute_script(script))
 
     def know_worth(self) -> None:
         """Waits until the page shows what each arc is worth in the present state."""
@@ -99,8 +116,11 @@ class Page:
 
         pause, until = SOON, time.monotonic() + SECONDS
         while time.monotonic() < until:
-            # What was found may be redrawn before it is asked.
-            with contextlib.suppress(NoSuchElementException, StaleElementReferenceException):
+            # What was found may be redrawn before it is asked, and a page that paints may answer
+            # late.
+            with contextlib.suppress(
+                NoSuchElementException, StaleElementReferenceException, TimeoutException
+            ):
                 if is_so():
                     return
             time.sleep(pause)

@@ -11,7 +11,7 @@ import signal
 import subprocess
 import termios
 import time
-from itertools import product
+from itertools import combinations, product
 from pathlib import Path
 from typing import NamedTuple
 
@@ -79,6 +79,18 @@ def swept() -> dict[str, tuple[int, int]]:
         pipe.name: (greatest([it for it in pipes if it != pipe]), greatest([*pipes, pipe]))
         for pipe in pipes
     }
+
+
+def worst_pairs_of_water() -> list[tuple[str, str, str]]:
+    """Return the names of the five worst pairs of the story, what is lost and what is left."""
+    pipes = water()
+    left = {
+        pair: greatest([it for it in pipes if it not in pair]) for pair in combinations(pipes, 2)
+    }
+    return [
+        (" and ".join(it.name for it in pair), str(165 - left[pair]), str(left[pair]))
+        for pair in sorted(left, key=left.__getitem__)[:5]
+    ]
 
 
 def run(

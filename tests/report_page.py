@@ -4,10 +4,9 @@ from __future__ import annotations
 
 import base64
 import itertools
+from collections.abc import Iterator
 from html.parser import HTMLParser
 from xml.etree import ElementTree
-
-from test_board_lines import on_curve, points
 
 
 class Page(HTMLParser):
@@ -52,6 +51,9 @@ class Page(HTMLParser):
 
 
 SVG = "{http://www.w3.org/2000/svg}"
+TEXT = f"{SVG}text"
+Point = tuple[float, float]
+LIMIT = "#c8430b"
 
 
 def named_in(picture: str) -> set[str]:
@@ -59,27 +61,95 @@ def named_in(picture: str) -> set[str]:
     return {it.text or "" for it in ElementTree.fromstring(picture).iter(f"{SVG}text")}
 
 
-def judge_labels(picture: str) -> None:
-    """Each arc and each place of the bottleneck, which is red, has a label, and no line of an arc
-    crosses the letters of any label. A letter is taken as half as wide as high."""
-    groups = [*ElementTree.fromstring(picture).iter(f"{SVG}g")]
-    curves = []
-    for group in groups[1:]:
-        path = group.find(f"{SVG}path")
-        if path is not None:
-            curves.append(on_curve(points(path.get("d") or "")))
-        if any(it.get("stroke") == "#c62828" for it in group):
-            assert group.findall(f"{SVG}text"), group.get("id")
-    for text in (text for group in groups[1:] for text in group.findall(f"{SVG}text")):
-        size, x, y = (float(text.get(name) or 0) for name in ("font-size", "x", "y"))
-        half = len(text.text or "") * size / 4
-        crossing = [
-            (right, down)
-            for curve in curves
-            for right, down in curve
-            if abs(right - x) < half and y - 0.7 * size < down < y
+def lines_of(path: str) -> Iterator[list[Point]]:
+    """The lines of a path, each by points close to each other."""
+    for line in path.split("M")[1:]:
+        ends = [tuple(map(float, it.split())) for it in line.split("L")]
+        yield [
+            (x0 + at / 40 * (x1 - x0), y0 + at / 40 * (y1 - y0))
+            for (x0, y0), (x1, y1) in zip(ends, ends[1:])
+            for at in range(41)
         ]
-        assert not crossing, (text.text, crossing[0])
+
+
+class Picture:
+    """What a picture of a report has: its size, where each place lies that is drawn and how far it
+    reaches, the points of each line, which arcs and places are orange, and its labels by what they
+    are of, each with the middle, half the width and half the height of its letters. A letter is
+    taken as half as wide as high."""
+
+    def __init__(self, text: str) -> None:
+        root = ElementTree.fromstring(text)
+        _, _, self.width, self.height = map(float, (root.get("viewBox") or "").split())
+        self.places: dict[str, tuple[Point, float, float]] = {}
+        self.lines: list[list[Point]] = []
+        self.limit: set[str] = set()
+        self.labels: dict[str, list[tuple[str, float, Point, float]]] = {}
+        for group in root.iter(f"{SVG}g"):
+            name = group.get("id") or ""
+            if name.startswith("label-"):
+                self.labels[name.removeprefix("label-")] = [*map(self._letters, group.iter(TEXT))]
+                continue
+            if any(it.get("stroke") == LIMIT for it in group):
+                self.limit.add(name)
+            path = group.find(f"{SVG}path")
+            if name.startswith("node-"):
+                self.places[name] = self._place(group)
+            elif path is not None:
+                self.lines += lines_of(path.get("d") or "")
+
+    @staticmethod
+    def _letters(text: ElementTree.Element) -> tuple[str, float, Point, float]:
+        size, x, y = (float(text.get(name) or 0) for name in ("font-size", "x", "y"))
+        told = text.text or ""
+        return told, size, (x, y - 0.35 * size), len(told) * size / 4
+
+    @staticmethod
+    def _place(group: ElementTree.Element) -> tuple[Point, float, float]:
+        shape = group[0]
+        number = {name: float(it) for name, it in shape.items() if name not in ("fill", "stroke")}
+        if shape.tag == f"{SVG}rect":
+            right, down = number["width"] / 2, number["height"] / 2
+            return (number["x"] + right, number["y"] + down), right, down
+        reach = number.get("r", 0.0)
+        at = number["cx"], number["cy"]
+        return at, number.get("rx", reach), number.get("ry", reach)
+
+
+def judge_labels(text: str) -> Picture:
+    """Each arc and each place of the bottleneck, which is orange, has a label; no line of an arc
+    crosses the letters of any label, no label lies on another or on a place, except one in its own
+    oval, and none is cut off."""
+    picture = Picture(text)
+    assert picture.limit <= picture.labels.keys(), picture.limit - picture.labels.keys()
+    judge_boxes(picture)
+    for name, texts in picture.labels.items():
+        own = picture.places.get(name)
+        for told, size, (x, y), half in texts:
+            if own and abs(x - own[0][0]) < 1 and abs(y - own[0][1]) < own[2]:
+                continue
+            for line in picture.lines:
+                crossing = [
+                    it for it in line if abs(it[0] - x) < half and abs(it[1] - y) < 0.35 * size
+                ]
+                assert not crossing, (told, crossing[0])
+    return picture
+
+
+def judge_boxes(picture: Picture) -> None:
+    """No label lies on another, or on a place that is not its own, and none is cut off."""
+    letters = [(name, *it) for name, texts in picture.labels.items() for it in texts]
+    for _, _, size, (x, y), half in letters:
+        assert half <= x <= picture.width - half
+        assert size / 2 <= y <= picture.height - size / 2
+    for (_, one, size, (x, y), half), (_, other, *_, at, wide) in itertools.combinations(
+        letters, 2
+    ):
+        assert abs(x - at[0]) > half + wide or abs(y - at[1]) > 0.7 * size, (one, other)
+    for name, told, size, (x, y), half in letters:
+        for place, ((right, down), wide, high) in picture.places.items():
+            apart = abs(x - right) > half + wide or abs(y - down) > 0.35 * size + high
+            assert apart or (place == name and wide > half), (told, place)
 
 
 def limits(page: Page) -> list[list[list[str]]]:

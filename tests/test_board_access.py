@@ -224,7 +224,7 @@ def test_focus_stays(driver: Any) -> None:
             lambda: driver.find_element("css selector", "#grid th.capacity").get_attribute(
                 "aria-sort"
             )
-            == "ascending"
+            == "descending"
         )
         page.wait(lambda: focused(page) == "fits")
         driver.get("about:blank")

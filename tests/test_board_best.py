@@ -8,7 +8,7 @@ from typing import Any
 import dmf
 import pytest
 from board_pages import Page
-from board_running import board
+from board_running import Board, board
 from c_library import library_file
 from client_shared import BUILT
 from desk_shared import PIPES, Pipe, desk_of, greatest, water
@@ -92,13 +92,13 @@ def test_page(driver: Any) -> None:
     with board(PIPES) as it:
         page = Page(driver, it.address)
         page.know_worth()
-        assert shown(page, "best-table") == [list(row) for row in best(water())]
+        assert shown(page, "best-table") == [[*row, "Try it"] for row in best(water())]
         assert page.text("#best-note") == (
             "Instead of 165 litres per second, so much can be sent with a second one beside one "
             "of these."
         )
-        titles = page.text("#best-table thead").strip().split("\t")
-        assert titles == ["Pipe", "then", "gained"]
+        titles = [it.strip() for it in page.text("#best-table thead").strip().split("\t")]
+        assert titles == ["Pipe", "then", "gained", "what can be done"]
         driver.execute_script("document.querySelector('#best-table tbody button').click()")
         page.wait(lambda: "Mill Lane" in page.text("#what h3"))
         assert page.text("#second") == "+15"
@@ -117,13 +117,47 @@ def test_page(driver: Any) -> None:
         left = best([pipe for pipe in water() if pipe.name != "Station Road"])
         (won,) = [gain for name, _, gain in left if name == "Mill Lane"] or ["0"]
         page.wait(lambda: page.text("#second") == f"+{won}")
-        page.wait(lambda: shown(page, "best-table") == [list(row) for row in left])
+        page.wait(lambda: shown(page, "best-table") == [[*row, "Try it"] for row in left])
         assert not driver.execute_script(IS_OLD)
         it.do(what="shut", node=1)
         page.wait(lambda: page.value() == 0)
         page.know_worth()
         assert page.text("#best-note") == "A second one of any of them alone brings nothing."
         assert driver.execute_script("return document.getElementById('best-table').hidden")
+
+
+def judge_trial(page: Page, it: Board, now: int, then: int) -> None:
+    """A click tries the first of the list: it is selected, and the page says what comes of it. The
+    network is changed only once that is confirmed, and one click takes it back."""
+    first = "#best-table tbody tr:first-child button"
+    name = page.text(first).partition(",")[0]
+    page.act_on(lambda: page.by_role("button", "Try "), lambda found: found.click())
+    page.settle()
+    said = page.text("#best-trial p")
+    assert name in said and said.endswith(f": {now} → {then}, {then - now} more.")
+    assert page.driver.find_elements("css selector", "#picture .chosen")
+    page.press("Leave it")
+    assert (page.text("#best-trial"), page.value(), it.state()["at"]) == ("", now, 0)
+    page.act_on(lambda: page.by_role("button", "Try "), lambda found: found.click())
+    assert page.after(lambda: page.press("Put it there")) == then
+    assert page.text("#best-trial") == "" and it.state()["at"] == 1
+    assert page.undo() == now
+
+
+@pytest.mark.usefixtures("in_process")
+def test_trial(driver: Any) -> None:
+    """Of the pipes, each has its own trial, in words; a step from elsewhere drops it."""
+    with board(PIPES) as it:
+        page = Page(driver, it.address)
+        page.know_worth()
+        judge_trial(page, it, 165, int(best(water())[0][1]))
+        page.know_worth()
+        for name, then, gain in best(water()):
+            page.by_role("button", f"Try a second {name}").click()
+            said = f"A second {name}: 165 → {then}, {gain} more."
+            page.wait(lambda: page.text("#best-trial p") == said)  # noqa: B023
+        it.do(what="close", arc=1)
+        page.wait(lambda: page.text("#best-trial") == "")
 
 
 def test_page_of_the_program(driver: Any, monkeypatch: pytest.MonkeyPatch) -> None:
@@ -160,5 +194,6 @@ def test_roster(driver: Any) -> None:
         wanted = [value_with_second(problem, row["number"]) for row in found]
         assert [int(row["doubled"]) for row in found] == wanted and wanted[0] > 120
         assert shown(page, "best-table") == [
-            [row["label"], row["doubled"], row["gain"]] for row in found
+            [row["label"], row["doubled"], row["gain"], "Try it"] for row in found
         ]
+        judge_trial(page, it, 120, int(found[0]["doubled"]))

@@ -12,10 +12,10 @@ from xml.etree import ElementTree
 import pytest
 from board_pages import Page
 from board_running import Board, board
+from board_views import SCALE, SVG, grid_table
 from desk_shared import PIPES
 from test_board_access import as_before, show
 from test_board_ground import PIXELS, city
-from test_board_view import SCALE, SVG, grid_table
 
 pytestmark = pytest.mark.seconds(20)
 # What each place of the town takes at most. Each pipe to one carries 20, so that much arrives.

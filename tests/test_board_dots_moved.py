@@ -8,13 +8,13 @@ from pathlib import Path
 from typing import Any
 
 import pytest
-from board_pages import Page
+from board_pages import Page, dialog
 from board_running import Board, board
+from board_views import SCALE, grid_table, spots
 from test_board_access import as_before, show
 from test_board_dots import DRAWN
 from test_board_labels import judge_labels
-from test_board_moved import ENDS, MIDDLES, SCALE, moved_by
-from test_board_view import grid_table, spots
+from test_board_moved import ENDS, MIDDLES, moved_by
 
 pytestmark = pytest.mark.seconds(30)
 # The place that matches a selector and is nearest to a point of the window, and its middle.
@@ -125,8 +125,9 @@ def test_dragged(driver: Any, tmp_path: Path) -> None:
         page.wait(lambda: page.text("#news").startswith(f"{name} was moved."))
         assert [*moved_by(before, shown(page, it))] == [part]
         page.press("Tidy")
-        assert driver.switch_to.alert.text == TIDY
-        driver.switch_to.alert.accept()
+        asked = dialog(driver)
+        assert asked.text == TIDY
+        asked.accept()
         page.wait(lambda: page.text("#news") == "The picture is laid out anew.")
         assert shown(page, it)[part] == before[part]
         assert it.told("picture?near=")["moved"] == 0

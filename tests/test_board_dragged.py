@@ -9,10 +9,10 @@ from typing import Any
 import pytest
 from board_pages import Page
 from board_running import board
+from board_views import grid_table
 from desk_shared import PIPES
 from test_board_access import as_before, show
 from test_board_ground import city
-from test_board_view import grid_table
 
 pytestmark = pytest.mark.seconds(20)
 # Moves the picture, all at once, so that it does not rest in between. Returns how often it was

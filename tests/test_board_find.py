@@ -69,30 +69,33 @@ def test_lists_end(driver: Any, tmp_path: Path) -> None:
 
 
 def test_use(driver: Any) -> None:
-    """The table says which part of each pipe is used, is sorted by that, and names what has
-    changed."""
+    """The table says which part of each pipe is used, is sorted by that, the largest first, and
+    names what has changed."""
     with board(PIPES) as it:
         page = Page(driver, it.address)
         it.do(what="cap", arc=2, capacity="+20 %")
         page.wait(lambda: "was 90" in page.text("#grid"))
         page.click("#grid th.use button")
-        page.wait(lambda: ascending(page))
+        page.wait(lambda: is_sorted(page, "descending"))
         cells = "[...document.querySelectorAll('#grid tbody tr[id]')]"
         told = driver.execute_script(
             f"return {cells}.map((it) => ['.flow', '.capacity', '.use', '.change'].map("
             "(at) => it.querySelector(at).innerText))"
         )
         parts = [int(flow) / int(capacity) for flow, capacity, *_ in told]
-        assert parts == sorted(parts) and len(parts) == 14
+        assert parts == sorted(parts, reverse=True) and len(parts) == 14
         wanted = [f"{int(100 * part + 0.5)} %" for part in parts]
         assert [use for *_, use, _ in told] == wanted
         assert [change for *_, change in told if change] == ["was 90"]
+        for way in "ascending", "none", "descending":
+            page.click("#grid th.use button")
+            page.wait(lambda: is_sorted(page, way))  # noqa: B023
         driver.get("about:blank")
 
 
-def ascending(page: Page) -> bool:
+def is_sorted(page: Page, way: str) -> bool:
     head = page.driver.find_element("css selector", "#grid th.use")
-    return bool(head.get_attribute("aria-sort") == "ascending")
+    return bool(head.get_attribute("aria-sort") == way)
 
 
 def test_names_of_pipes_can_be_read(driver: Any) -> None:

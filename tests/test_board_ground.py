@@ -247,6 +247,9 @@ def test_without_graphviz(driver: Any, tmp_path: Path, monkeypatch: pytest.Monke
             page.settle()
             page.write("#text", "right 2 2")
             page.choose_found("right 2 2")
+            page.settle()
+            if is_drawn:
+                page.wait(lambda: driver.execute_script(INK) > 2_000)
             driver.execute_async_script("requestAnimationFrame(() => setTimeout(arguments[0], 50))")
             assert (driver.execute_script(INK) > 2_000) == is_drawn
             before = page.value()
@@ -270,6 +273,7 @@ def test_pictures(driver: Any, tmp_path: Path, writes: bool) -> None:
             page.wait(
                 lambda: not larger or driver.find_element("id", "near-limit").is_displayed()
             )  # noqa: B023
+            page.settle()
             driver.execute_async_script(
                 "setTimeout(() => requestAnimationFrame(arguments[0]), 100)"
             )

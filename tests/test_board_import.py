@@ -1,63 +1,19 @@
 """The requests of the page on which a table is imported: what it shows of sheets that were worked
-by hand, what it opens, and each way in which a request or a file is refused."""
+by hand, and requests of another form."""
 
 from __future__ import annotations
 
 import json
-import os
 import shlex
-import socket
 from pathlib import Path
 from typing import Any
-from urllib.parse import quote
 
 import pytest
-from board_running import JSON, Board, board
-from desk_shared import run
-from dmf.desk.board.import_options import (
-    arguments,
-    command_line,
-    nothing_said,
-    options_of,
-    others_of,
-)
-from dmf.errors import TableFault
-from dmf.tables.loader import split_path
-from dmf.tools.board import first_answers, may_ask, options
-from dmf.tools.command import ToolFault
+from board_running import board
+from dmf.desk.board.import_options import nothing_said
+from import_requests import OPEN, PLAIN, asked, importing, said, sent
 
 pytestmark = pytest.mark.seconds(10)
-# From Res over A to Town: 40 by the flows, and 900 by the lengths. No title says which they are.
-OPEN = "Start node,End node,Length (m),Q [m\u00b3/h]\nRes,A,1200,50\nA,Town,900,40\n"
-PLAIN = "from,to,capacity\nRes,A,50\nA,Town,40\n"
-BYTES = {"Content-Type": "application/octet-stream"}
-
-
-def importing(folder: Path, text: str = "", *words: str, name: str = "s.csv") -> Any:
-    """A board that begins with the import of a table, or of none, in this folder."""
-    if text:
-        (folder / name).write_text(text, encoding="utf-8")
-    return board("--import", *([name] if text else []), *words, cwd=folder)
-
-
-def asked(it: Board, path: str, content: object) -> tuple[int, Any]:
-    """The answer to a request that is posted."""
-    status, _, told = it.ask(it.root + path, json.dumps(content).encode(), **JSON)
-    return status, json.loads(told)
-
-
-def said(it: Board, **options: object) -> Any:
-    """The view once these options are said, and no others."""
-    status, view = asked(it, "import", {"options": {**nothing_said(), **options}})
-    assert status == 200, view
-    return view
-
-
-def sent(it: Board, name: str, data: bytes, **headers: str) -> tuple[int, Any]:
-    """The answer to a file that is sent."""
-    path = f"{it.root}upload?name={quote(name, safe='')}"
-    status, _, told = it.ask(path, data, **{**BYTES, **headers})
-    return status, json.loads(told)
 
 
 def roles(view: Any) -> list[tuple[str, str]]:
@@ -318,114 +274,3 @@ def test_two_tabs(tmp_path: Path) -> None:
         assert it.told("import")["options"]["capacity"] == "Q [m\u00b3/h]"
         assert asked(it, "open", {})[0] == 200
         assert it.turn() == 1 and asked(it, "open", {})[0] == 404
-
-
-def test_changed_file(tmp_path: Path) -> None:
-    """The view is that of the file as it is, and no other one is opened."""
-    with importing(tmp_path, PLAIN) as it:
-        assert it.told("import")["answer"]["said"].startswith("40 ")
-        (tmp_path / "s.csv").write_text(PLAIN.replace("40", "3"))
-        status, told = asked(it, "open", {})
-        assert status == 409 and "changed" in told["error"]
-        assert it.told("import")["answer"]["said"].startswith("3 ")
-        (tmp_path / "s.csv").unlink()
-        view = it.told("import")
-        assert "cannot read s.csv" in view["faults"][0]["text"] and view["answer"] is None
-        assert it.end() == 130
-
-
-def test_kept(tmp_path: Path) -> None:
-    """A project keeps what was said."""
-    with importing(tmp_path, OPEN, "--keep") as it:
-        said(it, capacity="Q [m\u00b3/h]", source=["Res"])
-        assert asked(it, "open", {})[0] == 200
-        assert it.state()["kept_in"] == "s.dmf.json"
-        it.end()
-    kept = json.loads((tmp_path / "s.dmf.json").read_text())["table"]["options"]
-    assert (kept["capacity"], kept["source"]) == ("Q [m\u00b3/h]", ["Res"])
-    with board("s.dmf.json", cwd=tmp_path) as again:
-        assert again.state()["value"] == "40"
-    with importing(tmp_path, OPEN, "--keep", "--capacity", "Q [m\u00b3/h]") as it:
-        assert it.told("import")["answer"]
-        status, told = asked(it, "open", {})
-        assert status == 409 and "s.dmf.json" in told["error"]
-        assert it.told("import")["answer"]
-
-
-def test_map(tmp_path: Path) -> None:
-    """A faulty map is told, and the import goes on."""
-    (tmp_path / "map.csv").write_text("place,x,y\nRes,0,none\n")
-    with importing(tmp_path, PLAIN, "--map", "map.csv") as it:
-        assert it.told("import")["command"] == "dmf board s.csv --map map.csv"
-        status, told = asked(it, "open", {})
-        assert status == 409 and "map.csv" in told["error"]
-        assert it.told("import")["answer"]["said"] == "40 can be sent from Res to Town"
-
-
-def test_scripts(tmp_path: Path, monkeypatch: pytest.MonkeyPatch) -> None:
-    """In a script, what is open stays an error; where there is a screen, the page asks."""
-    path = tmp_path / "s.csv"
-    path.write_text(OPEN, encoding="utf-8")
-    screenless = {"DISPLAY": "", "WAYLAND_DISPLAY": ""}
-    for words in (), ("--no-browser",):
-        ran = run("dmf-board", *words, str(path), **screenless)
-        assert ran.returncode == 3 and "which column is the capacity?" in ran.stderr
-        ran = run("dmf-board", *words, **screenless)
-        assert ran.returncode == 2 and "name the file of a table or a problem" in ran.stderr
-    ran = run("dmf-board", "--import", str(tmp_path / "s.dmf.json"))
-    assert ran.returncode == 2 and "--import is for tables" in ran.stderr
-    for name, text in screenless.items():
-        monkeypatch.setenv(name, text)
-    monkeypatch.setattr("sys.stderr", None)
-    with pytest.raises(TableFault):
-        first_answers(options([str(path)]))
-    monkeypatch.setenv("DISPLAY", ":99")
-    assert may_ask(options([])) and not may_ask(options(["--no-browser", "s.csv"]))
-    assert first_answers(options([])).page == first_answers(options([str(path)])).page
-    assert first_answers(options([])).page == "import.html"
-    with pytest.raises(TableFault):
-        first_answers(options(["--no-browser", str(path)]))
-    with pytest.raises(ToolFault):
-        first_answers(options(["--import", str(tmp_path)]))
-
-
-def test_ends_of_the_board(tmp_path: Path) -> None:
-    """A taken port is told, and Ctrl-C ends an import as it ends a board."""
-    (tmp_path / "s.csv").write_text(PLAIN)
-    with socket.socket() as other:
-        other.bind(("127.0.0.1", 0))
-        taken = str(other.getsockname()[1])
-        ran = run("dmf-board", "--import", "--no-browser", "--port", taken, str(tmp_path / "s.csv"))
-        assert ran.returncode == 4 and "cannot listen" in ran.stderr
-    with importing(tmp_path, PLAIN) as it:
-        assert it.told("import")["answer"]
-        assert it.end() == 130
-    assert not it.sessions()
-
-
-# Command lines: each option, in each form, and texts that look like options.
-LINES = [
-    ["s.csv"],
-    ["net.xlsx#South"],
-    ["--tail=-x", "--", "-odd.csv"],
-    ["s.csv", "Res", "Town"],
-    ["s.csv", "--source", "Res", "--source", "Mill=5", "--sink=-", "--sink", "a 'b' \"c\" $d"],
-    ["s.csv", "--tail", "von", "--head", "nach", "--capacity", "column 3", "--name", "\u00e9"],
-    ["s.csv", "--ignore", "a", "--ignore=---", "--decimal", ",", "--missing", "unlimited"],
-    ["s.csv", "--matrix", "--both-ways", "--raw-names", "--keep"],
-    ["s.csv", "--scale", "2.50", "--encoding", "latin-1", "--velocity", "1.5", "--tolerance", "0"],
-    ["s.csv", "--tanks", "none", "--places", "p.csv#q", "--map", "m.csv", "--sinks", "d.csv"],
-    ["s.csv", "--sources", "a", "--node-limits=-b"],
-]
-
-
-@pytest.mark.parametrize("given", LINES, ids=map(" ".join, LINES))
-def test_command_line(given: list[str]) -> None:
-    """The command on the page says what the arguments said."""
-    words = options(["--import", *given])
-    path = split_path(words.path)[0]
-    told = command_line(arguments(path, options_of(words), others_of(words)))
-    again = options([*shlex.split(told)[2:]])
-    assert os.path.normpath(again.path) == os.path.normpath(words.path)
-    same = {"places": [], "fixed": [], "is_import": False, "ask": None, "path": ""}
-    assert {**vars(again), **same} == {**vars(words), **same}

@@ -1,8 +1,5 @@
-"""The page of an import in headless Chromium, by roles and names: a file is chosen or dropped, what
-it leaves open is answered, and the board is opened.
-
-Today A passes on min(30, 25) = 25 m³/h and B min(20, 15) = 15, in all 40; later min(60, 50) = 50
-and min(40, 20) = 20, in all 70."""
+"""The page of an import in headless Chromium: a file is chosen or dropped, what it leaves open is
+answered, and the board is opened."""
 
 from __future__ import annotations
 
@@ -14,31 +11,11 @@ import pytest
 from board_pages import Page
 from board_running import board
 from desk_shared import ROOT
+from import_pages import CAPACITY, DROP, LATER, TODAY, VALLEY, ImportPage
 from test_board_access import ENTER, SCHEMES, TAB, TEXTS, WIDTHS, as_before, judge_names, show
 
 pytestmark = pytest.mark.seconds(20)
-TODAY, LATER, CAPACITY = "Q today [m³/h]", "Q later [m³/h]", "Capacity [m³/h]"
-VALLEY = f"""Pipes of the valley,,,,
-as of 2024,,,,
-Pipe,Start node,End node,{TODAY},{LATER}
-P1,Res,A,30,60
-P2,Res,B,20,40
-P3,A,Town,25,50
-P4,B,Town,15,20
-"""
 CONTROL = "\ue009"
-# By role, what has it.
-PLACES = {"button": "button", "combobox": "select, input[list]", "textbox": "input"}
-PLACES |= {"checkbox": "input[type=checkbox]", "file": "input[type=file]", "list": "ul"}
-# Drops files, each with its name and its text, on the page.
-DROP = """
-const moved = new DataTransfer();
-for (const [name, text] of arguments[0]) moved.items.add(new File([text], name));
-for (const kind of ["dragover", "drop"]) {
-  const how = { bubbles: true, cancelable: true, dataTransfer: moved };
-  document.body.dispatchEvent(new DragEvent(kind, how));
-}
-"""
 # Chooses in two menus, the second one before the first is answered.
 CHOOSE_TWO = """
 for (const [list, value] of arguments[0]) {
@@ -59,59 +36,20 @@ window.fetch = async (path, ...rest) => {
   return fetch(path, ...rest);
 };
 """
+# Where the cell that cannot be read begins and ends, and where its room does, in pixels.
+CELL = """
+const cell = document.querySelector("#preview-table .fault"), box = (it) =>
+  it.getBoundingClientRect();
+const host = box(document.getElementById("preview-scroll"));
+const room = [box(cell.parentElement.firstElementChild).right, host.right];
+return [box(cell).left + 1, box(cell).right - 1, room];
+"""
 SMALL = """
 const isSeen = (it) => it.checkVisibility() && !it.closest(".unseen, datalist, option");
 return [...document.querySelectorAll("body *")]
   .filter((it) => isSeen(it) && [...it.childNodes].some(({ nodeType }) => nodeType === 3))
   .filter((it) => parseFloat(getComputedStyle(it).fontSize) < 11).map((it) => it.outerHTML);
 """
-
-
-class ImportPage(Page):
-    """The page of an import."""
-
-    def ready(self) -> None:
-        self.wait(
-            lambda: self.driver.execute_script("return document.readyState === 'complete'")
-            and self.text("#title")
-        )
-        self.settle()
-
-    def named(self, role: str, name: str) -> Any:
-        """Return the element of this role and this name."""
-        self.settle()
-        for found in self.driver.find_elements("css selector", PLACES[role]):
-            if found.accessible_name == name and role in ("file", found.aria_role):
-                return found
-        raise AssertionError(f"no {role} is called {name}")
-
-    def says(self, text: str) -> None:
-        """Wait until the headline begins with this."""
-        self.wait(lambda: self.text("#value").startswith(text))
-        self.settle()
-
-    def select(self, name: str, word: str) -> None:
-        """Choose an entry of a menu."""
-        self.menu(name).select_by_visible_text(word)
-
-    def selected(self, name: str) -> str:
-        return str(self.menu(name).first_selected_option.text)
-
-    def menu(self, name: str) -> Any:
-        from selenium.webdriver.support.select import Select
-
-        made: Any = Select
-        return made(self.named("combobox", name))
-
-    def type(self, name: str, *keys: str) -> None:
-        self.named("combobox", name).send_keys(*keys)
-
-    def items(self, name: str) -> list[str]:
-        found = self.named("list", name).find_elements("css selector", "li")
-        return [" ".join(it.text.replace("×", "").split()) for it in found]
-
-    def focused(self) -> str:
-        return str(self.driver.switch_to.active_element.accessible_name)
 
 
 @pytest.fixture
@@ -249,6 +187,23 @@ def test_fault_in_cell(driver: Any, valley: Path) -> None:
             driver.execute_script(CHOOSE_TWO, [[page.named("combobox", name), value]])
             page.says(answer)
         assert not driver.find_element("id", "faults").is_displayed()
+
+
+@pytest.mark.parametrize("width", WIDTHS)
+def test_fault_is_seen(driver: Any, valley: Path, width: int) -> None:
+    """The cell that cannot be read is in sight beside the number of its line, and the fault is told
+    once, without the option that settles it, for which there are buttons."""
+    valley.write_text(VALLEY.replace("A,Town,25", "A,Town,n/a"))
+    with board("valley.csv", "--import", "--capacity", TODAY, cwd=valley.parent) as it:
+        show(driver, width, "light")
+        page = ImportPage(driver, it.address)
+        page.says("Line 6")
+        left, right, room = driver.execute_script(CELL)
+        assert room[0] <= left < right <= room[1]
+        said = page.text("#top") + page.text("#preview")
+        assert said.count("'n/a' is not a number") == 1 and "--missing" not in said
+        assert page.by_role("button", "Missing capacities are 0").is_displayed()
+        as_before(driver)
 
 
 def test_ends_typed(driver: Any, valley: Path) -> None:

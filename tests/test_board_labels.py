@@ -10,9 +10,9 @@ from typing import Any
 import pytest
 from board_pages import Page
 from board_running import board
+from board_views import grid_table
 from desk_shared import PIPES
 from test_board_access import WIDTHS, as_before, show
-from test_board_view import grid_table
 
 pytestmark = pytest.mark.seconds(20)
 # The number of labels that are shown, and those that lie on something. A name in its own place lies

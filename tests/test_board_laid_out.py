@@ -5,16 +5,17 @@ from __future__ import annotations
 import json
 import time
 from pathlib import Path
+from shutil import which
 from typing import Any
 
 import pytest
-from board_pages import Page
+from board_pages import Page, dialog
 from board_running import Board as Running
 from board_running import board
-from desk_shared import PIPES
+from board_views import SCALE, grid_table, spots
+from desk_shared import PIPES, SECONDS
 from test_board_access import as_before, show
-from test_board_moved import MIDDLES, SCALE, move, node_of
-from test_board_view import grid_table, spots
+from test_board_moved import MIDDLES, move, node_of
 
 pytestmark = pytest.mark.seconds(20)
 
@@ -37,7 +38,7 @@ def test_tidy(driver: Any, does: bool) -> None:
         page.choose("arc-9", "Mill Lane")
         wanted = laid_out(page, fresh)
         driver.find_element("id", "picture").send_keys("t")
-        alert = driver.switch_to.alert
+        alert = dialog(driver)
         assert alert.text.startswith("The 2 places that you moved will lie where the picture puts")
         if does:
             alert.accept()
@@ -57,17 +58,28 @@ def laid_out(page: Page, fresh: Running) -> dict[str, list[str]]:
     return {part: [*at] for part, at in spots(fresh, f"&form={form}").items()}
 
 
-def test_tidy_beside(tmp_path: Path) -> None:
+def test_tidy_beside(tmp_path: Path, monkeypatch: pytest.MonkeyPatch) -> None:
     """A network of 2,112 arcs is laid out as a whole while the board answers, and steps go on; then
     all of it is shown, no place on another. A move meanwhile stops it."""
+    # Graphviz lays nothing out while the file is not there.
+    go, programs = tmp_path / "go", tmp_path / "programs"
+    programs.mkdir()
+    go.touch()
+    waiting = programs / "sfdp"
+    waiting.write_text(
+        f'#!/bin/sh\nuntil [ -e {go} ]; do sleep 0.05; done\nexec {which("sfdp")} "$@"\n'
+    )
+    waiting.chmod(0o755)
+    monkeypatch.setenv("PATH", str(programs), prepend=":")
     with board(grid_table(tmp_path, 33)) as it:
         spots(it)
         assert not it.told("picture?near=")["has_ground"]
-        begun = time.monotonic()
+        go.unlink()
         assert it.post("tidy", near="", form=140)[0] == 200
         assert json.loads(it.post("tidied")[1])["is_laying_out"]
         it.do(what="close", arc=5)
-        assert it.state()["at"] == 1 and time.monotonic() - begun < 1.5
+        assert it.state()["at"] == 1 and json.loads(it.post("tidied")[1])["is_laying_out"]
+        go.touch()
         while json.loads(it.post("tidied")[1])["is_laying_out"]:
             time.sleep(0.05)
         told = it.told("picture?near=")
@@ -78,8 +90,10 @@ def test_tidy_beside(tmp_path: Path) -> None:
         for at, (x, y) in enumerate(middles):
             for other_x, other_y in middles[at + 1 : at + 40]:
                 assert abs(other_x - x) > 5 or abs(other_y - y) > 5
+        go.unlink()
         it.post("tidy", near="", form=140)
         move(it, ground["nodes"][0], ground["right"][0] + 10, ground["down"][0])
+        go.touch()
         told = {"is_laying_out": True}
         while told.get("is_laying_out"):
             told = json.loads(it.post("tidied")[1])
@@ -90,7 +104,7 @@ def test_tidy_beside(tmp_path: Path) -> None:
 def test_no_program_is_left(tmp_path: Path, monkeypatch: pytest.MonkeyPatch) -> None:
     """A board that ends while places are laid out ends Graphviz too."""
     dot, begun = tmp_path / "dot", tmp_path / "begun"
-    dot.write_text(f"#!/bin/sh\necho $$ > {begun}.part; mv {begun}.part {begun}\nexec sleep 60\n")
+    dot.write_text(f"#!/bin/sh\necho $$ > {begun}.part; mv {begun}.part {begun}\nexec sleep 300\n")
     dot.chmod(0o755)
     monkeypatch.setenv("PATH", str(tmp_path), prepend=":")
     with board(PIPES) as it:
@@ -100,7 +114,7 @@ def test_no_program_is_left(tmp_path: Path, monkeypatch: pytest.MonkeyPatch) -> 
         program = Path("/proc", begun.read_text().strip(), "cmdline")
         assert program.read_text()
         assert it.end() == 130
-        until = time.monotonic() + 2
+        until = time.monotonic() + SECONDS
         while program.exists() and program.read_text() and time.monotonic() < until:
             time.sleep(0.01)
         # A program that nobody has waited for yet has no words any more.

@@ -2,12 +2,11 @@
 
 from __future__ import annotations
 
-import time
 from collections.abc import Iterator
 from typing import Any
 
 import pytest
-from board_pages import OTHER_NAME, Page
+from board_pages import OTHER_NAME, Page, dialog
 from board_running import Board, board
 from desk_shared import PIPES, without
 
@@ -106,7 +105,7 @@ def test_dialog(driver: Any) -> None:
         tabs = open_tabs(driver, it, 3)
         driver.switch_to.window(tabs[0])
         driver.execute_script("setTimeout(() => confirm('Is this still open?'))")
-        time.sleep(0.2)
+        dialog(driver)
         assert "error" not in it.do(what="close", arc=10)
         judge(driver, tabs[1:], without("Bridge pipe"))
         assert "error" not in it.do(what="go", step=0)

@@ -14,6 +14,7 @@ import pytest
 from board_pages import Page, set_width
 from board_running import Board as Running
 from board_running import board
+from board_views import SCALE, spots
 from desk_shared import PIPES, ROOT
 from dmf.desk.board.routes import Board
 from dmf.desk.project.opener import project_desk
@@ -22,14 +23,11 @@ from dmf.desk.project.storage import ProjectFile
 from project_shared import water_project
 from test_board_access import as_before, show
 from test_board_ground import city
-from test_board_view import spots
 
 pytestmark = pytest.mark.seconds(20)
 ALT, SHIFT, ESCAPE, BACKSPACE = "\ue00a", "\ue008", "\ue00c", "\ue003"
 RIGHT, DOWN = "\ue014", "\ue015"
 Spots = dict[str, tuple[str, str]]
-# How many pixels a unit of the picture has.
-SCALE = "return document.querySelector('#picture svg').getScreenCTM().a"
 # The middles of places in the picture of a page, by their parts.
 MIDDLES = """
 return Object.fromEntries([...document.querySelectorAll("#picture .node")].map((it) => {

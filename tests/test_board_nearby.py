@@ -8,7 +8,7 @@ from collections.abc import Callable
 
 import pytest
 from desk_shared import desk_of
-from dmf.desk.board.selection import Nearby
+from dmf.desk.pictures.nearby import Nearby
 from dmf.desk.steps import DeskFault
 from dmf.desk.workspace import Desk
 

@@ -42,7 +42,9 @@ own.fillText = function (text, x, y) {
 };
 own.arc = function (x, y, size, ...words) {
   const { a, e, f } = this.getTransform(), [right, down, far] = [x * a + e, y * a + f, size * a];
-  window.noted.places.push([right - far, down - far, right + far, down + far]);
+  // The overview has places at another size, and is painted when the page is idle.
+  if (this.canvas.id !== "overview")
+    window.noted.places.push([right - far, down - far, right + far, down + far]);
   return arc.call(this, x, y, size, ...words);
 };
 """
@@ -65,6 +67,10 @@ def is_free(driver: Any) -> bool:
         x >= 0 and y >= 0 and right <= wide and down <= high for x, y, right, down in places
     )
     return bool(places) and is_seen and not any(meet(one, it) for one in places for it in over)
+
+
+# Where the first text of the panel's open part begins.
+TOP = "document.querySelector('#what p').getBoundingClientRect().top"
 
 
 def test_sheet(driver: Any) -> None:
@@ -95,12 +101,14 @@ def test_grip(driver: Any) -> None:
         show(driver, 400, "light")
         page = Page(driver, it.address)
         head, high = driver.execute_script(HEAD)
-        low, half, full = 128, round(0.46 * high), high - head - 8
+        low, half, full = 108, round(0.46 * high), high - head - 8
         grip = driver.find_element("id", "panel-grip")
         for wanted in half, full, low:
             grip.click()
             page.wait(lambda: sheet(driver) == pytest.approx(wanted, abs=1))  # noqa: B023
         page.wait(lambda: is_free(driver))
+        # The low sheet has the field and the tabs, and cuts no text.
+        assert driver.execute_script("return " + TOP) >= high
         page.actions().move_to_element(grip).click_and_hold().move_by_offset(0, -100).perform()
         assert sheet(driver) == pytest.approx(low + 100, abs=1)
         assert driver.execute_script(FOOT) == pytest.approx(high - low - 100 - 8, abs=1)

@@ -14,9 +14,9 @@ from xml.etree import ElementTree
 
 import pytest
 from board_running import board
+from board_views import grid_table, spots
 from desk_shared import PIPES, ROOT
 from test_board_ground import city
-from test_board_view import grid_table, spots
 
 pytestmark = pytest.mark.seconds(10)
 SVG = "{http://www.w3.org/2000/svg}"

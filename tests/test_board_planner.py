@@ -15,13 +15,19 @@ import networkx
 import pytest
 from board_pages import Page
 from board_running import board
+from c_library import library_file
+from import_pages import ImportPage
 from test_board_access import as_before, show
-from test_board_import_page import ImportPage
 
 SIDE, NOW, LATER = 12, "Q now [l/s]", "Q later [l/s]"
 # The most clicks, with the three of each dialog for a file and the one in that for printing.
 MOST_CLICKS = 12
 Row = tuple[str, str, str, int]
+# Counts the clicks on an element.
+NOTE_CLICKS = """
+window.noted = 0;
+arguments[0].addEventListener("click", () => { window.noted += 1; });
+"""
 
 
 def town() -> list[Row]:
@@ -52,15 +58,50 @@ class Walk(Page):
     clicks = 0
 
     def press(self, word: str) -> None:
-        """Presses a button, or a tab, of this name that can be seen. No tab is opened for it."""
+        """Presses what a click acts on that has this name and can be seen. No tab is opened for
+        it."""
         self.clicks += 1
         self.wait(lambda: [it.click() for it in self.seen(word)[:1]])
         self.settle()
 
     def seen(self, word: str) -> list[Any]:
-        """The buttons and tabs whose names begin with this."""
-        found = self.driver.find_elements("css selector", "button, [role=tab]")
-        return [it for it in found if it.is_displayed() and it.accessible_name.startswith(word)]
+        """The buttons, tabs and links whose names begin with this, if they can be clicked."""
+        found = self.driver.find_elements("css selector", "button, [role=tab], a, label.button")
+        return [
+            it
+            for it in found
+            if it.is_displayed() and it.is_enabled() and name_of(it).startswith(word)
+        ]
+
+    def hand_on(self, word: str, folder: Path, file: str) -> Path:
+        """Presses a link that hands a file on, and waits for the file."""
+        words = {"behavior": "allow", "downloadPath": str(folder)}
+        self.driver.execute_cdp_cmd("Browser.setDownloadBehavior", words)
+        self.press(word)
+        self.wait((folder / file).exists)
+        return folder / file
+
+
+class FirstWalk(Walk, ImportPage):
+    """A page that asks for a file, on which every click is counted."""
+
+    def choose_file(self, file: Path) -> None:
+        """Presses the button for a file, and chooses it in the dialog that the browser opens, by a
+        click on it and one on Open."""
+        words = "Page.setInterceptFileChooserDialog"
+        self.driver.execute_cdp_cmd(words, {"enabled": True})
+        field = self.named("file", "Choose a file")
+        self.driver.execute_script(NOTE_CLICKS, field)
+        self.press("Choose a file")
+        assert self.driver.execute_script("return window.noted") == 1
+        field.send_keys(str(file))
+        self.clicks += 2
+        self.driver.execute_cdp_cmd(words, {"enabled": False})
+
+
+def name_of(found: Any) -> str:
+    """The name of what a click acts on; a label has that of its field."""
+    return str(found.text if found.tag_name == "label" else found.accessible_name)
 
 
 def judge_second(page: Walk, rows: list[Row]) -> None:
@@ -80,6 +121,23 @@ def judge_second(page: Walk, rows: list[Row]) -> None:
     assert page.value() == value + max(gains.values())
 
 
+def judge_best(page: Walk, rows: list[Row]) -> None:
+    """The first of those that are best to have twice is tried, and then put there."""
+    value, gains = greatest(rows), {row[0]: greatest([*rows, row]) for row in rows}
+    best = max(gains.values())
+    page.know_worth()
+    page.press("Try a second ")
+    said = page.text("#best-trial p")
+    assert said in {
+        f"A second {name}: {value} → {best}, {best - value} more."
+        for name in gains
+        if gains[name] == best
+    }
+    assert page.value() == value
+    page.press("Put it there")
+    assert page.value() == best
+
+
 def judge_print(driver: Any, value: int) -> None:
     """The report has the value, and is printed on at most two sheets of A4."""
     assert f"{value} l/s" in driver.find_element("tag name", "body").text
@@ -92,40 +150,44 @@ def judge_print(driver: Any, value: int) -> None:
 
 
 @pytest.mark.seconds(30)
-def test_from_the_file_to_a_printed_report(driver: Any, tmp_path: Path) -> None:
-    rows = town()
-    lines = [f"{name},{tail},{head},{now},{now + 5}\n" for name, tail, head, now in rows]
-    table = tmp_path / "town.csv"
-    table.write_text(f"Pipe,Start node,End node,{NOW},{LATER}\n" + "".join(lines))
+def test_from_the_file_to_a_printed_report(
+    driver: Any, tmp_path: Path, monkeypatch: pytest.MonkeyPatch
+) -> None:
+    """Eleven clicks lead from a workbook with 300 pipes to a printed report: the file, its name and
+    Open in the dialog, the column, Open; *Try it*, *Put it there*; the steps, the report; the file
+    that was handed on, and after Ctrl-P Print."""
+    import openpyxl
+
+    rows, book = town(), openpyxl.Workbook()
+    assert len(rows) == 300 and book.active is not None
+    book.active.append(["Pipe", "Start node", "End node", NOW, LATER])
+    for row in rows:
+        book.active.append([*row, row[3] + 5])
+    table = tmp_path / "town.xlsx"
+    book.save(table)
     folder = tmp_path / "board"
     folder.mkdir()
+    # As in an installed package, the library finds what is best to have twice.
+    monkeypatch.setenv("DMF_LIBRARY", library_file())
     with board("--import", cwd=folder) as it:
         show(driver, 1280, "light")
-        first = ImportPage(driver, it.address)
-        first.named("file", "Choose a file").send_keys(str(table))
+        first = FirstWalk(driver, it.address)
+        first.choose_file(table)
         first.says("Which column is the capacity?")
-        offered = driver.find_elements("css selector", "#choices button")
-        next(it for it in offered if it.text.startswith(NOW)).click()
-        first.wait(lambda: first.named("button", "Open").is_enabled())
+        first.press(NOW)
         first.press("Open")
         page = Walk(driver, "")
-        # The file, its name and Open in the dialog; the column; and Open.
-        page.clicks = 5
+        page.clicks = first.clicks
         assert page.value() == greatest(rows)
-        judge_second(page, rows)
+        judge_best(page, rows)
         value = page.value()
         page.press("Steps")
-        link = page.find("#take-report")
-        assert link.accessible_name == "Report to hand on (HTML)"
-        page.clicks += 1
-        status, _, report = it.ask(it.root + link.get_attribute("href").rpartition("/")[2])
-        assert status == 200
-        (tmp_path / "report.html").write_bytes(report)
-        driver.get(f"file://{tmp_path}/report.html")
+        report = page.hand_on("Report to hand on (HTML)", tmp_path, "report.html")
+        # The file that was handed on, and Print in the dialog that Ctrl-P opens.
+        page.clicks += 2
+        driver.get(f"file://{report}")
         judge_print(driver, value)
-        # Print, in the dialog that Ctrl-P opens.
-        page.clicks += 1
-        assert page.clicks <= MOST_CLICKS
+        assert page.clicks == 11 <= MOST_CLICKS
         as_before(driver)
 
 
@@ -187,21 +249,12 @@ def test_from_the_command_to_a_printed_report(driver: Any, tmp_path: Path) -> No
         assert {row["name"] for row in listed} >= {row[0] for row in rows}
         assert not driver.find_elements("css selector", "#panel b, #picture b, #limit-table b")
         page.press("Steps")
-        words = {"behavior": "allow", "downloadPath": str(tmp_path)}
-        driver.execute_cdp_cmd("Browser.setDownloadBehavior", words)
-        link = page.find("#take-pdf")
-        page.clicks += 1
-        link.click()
-        page.wait(lambda: [*tmp_path.glob("*.pdf")])
-        assert (tmp_path / "report.pdf").read_bytes().startswith(b"%PDF-")
+        printed = page.hand_on("Report to print (PDF)", tmp_path, "report.pdf")
+        assert printed.read_bytes().startswith(b"%PDF-")
         # The file, Ctrl-P, and Print in the dialog that it opens.
         page.clicks += 3
-        assert page.clicks == 9 < MOST_CLICKS
-        link = page.find("#take-report")
-        status, _, report = it.ask(it.root + link.get_attribute("href").rpartition("/")[2])
-        assert status == 200
-        (tmp_path / "report.html").write_bytes(report)
-        driver.get(f"file://{tmp_path}/report.html")
+        assert page.clicks == 9 <= MOST_CLICKS
+        driver.get(f"file://{page.hand_on('Report to hand on (HTML)', tmp_path, 'report.html')}")
         judge_print(driver, value)
         assert not driver.find_elements("css selector", "b")
         as_before(driver)

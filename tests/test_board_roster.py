@@ -8,11 +8,11 @@ from typing import Any
 from xml.etree import ElementTree
 
 import pytest
-from board_pages import Page
+from board_pages import Page, told_loss
 from board_running import board
+from board_views import SVG
 from desk_shared import ROOT
 from test_board_access import as_before, show
-from test_board_view import SVG
 
 pytestmark = pytest.mark.seconds(20)
 ROTA = str(ROOT / "examples/rota/rota.csv"), "--shift", "8", "--daily", "1"
@@ -118,8 +118,11 @@ def test_words_of_each_tab(driver: Any) -> None:
         said = judge_panel(page, "#what")
         for word in "Gives", "Leaving it out", "allows hours", "What Cem can work in hours":
             assert word in said
-        lost = page.fact("Leaving it out").split(" → ")
-        assert page.after(lambda: page.press("Leave it out")) == int(lost[1]) < int(lost[0])
+        before = page.value()
+        page.wait(lambda: page.fact("Leaving it out"))
+        lost = page.fact("Leaving it out")
+        left = page.after(lambda: page.press("Leave it out"))
+        assert left < before and lost == told_loss(before, left)
         assert page.text("#what .chips").endswith("left out")
         assert page.text("#news").startswith("Cem is left out: ")
         judge_panel(page, "#what")

@@ -8,7 +8,7 @@ from pathlib import Path
 from typing import Any
 
 import pytest
-from board_pages import Page
+from board_pages import Page, told_loss
 from board_running import Board, board
 from desk_shared import PIPES, greatest, water, without
 from test_board_access import as_before, judge_names, show
@@ -86,7 +86,7 @@ def test_pipe(driver: Any, width: int) -> None:
             find(page, name)
             row = rows_of(it)[name]
             left = without(name)
-            page.wait(lambda: page.fact("Closing this") == f"165 → {left}")  # noqa: B023
+            page.wait(lambda: page.fact("Closing this") == told_loss(165, left))  # noqa: B023
             told = judge_rows(page)
             assert told["Flow"] == f"{row['flow']} of {row['capacity']}"
             judge_roles(driver, "Flow", "Closing this", "A second one")
@@ -119,7 +119,7 @@ def test_place(driver: Any, width: int) -> None:
         into = [row for row in rows if row["head"] == "Mill"]
         out = [row for row in rows if row["tail"] == "Mill"]
         kept = [pipe for pipe in water() if "Mill" not in pipe[:2]]
-        page.wait(lambda: page.fact("Shutting it") == f"165 → {greatest(kept)}")
+        page.wait(lambda: page.fact("Shutting it") == told_loss(165, greatest(kept)))
         told = judge_rows(page)
         assert told["Comes in"] == told["Goes out"] == str(sum(int(row["flow"]) for row in into))
         wanted = [

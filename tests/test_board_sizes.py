@@ -10,6 +10,7 @@ from typing import Any, NamedTuple
 import pytest
 from board_pages import Page
 from board_running import Board, board
+from board_views import HEIGHTS, is_in, spots
 from packages import load
 from test_board_access import (
     ENTER,
@@ -23,7 +24,6 @@ from test_board_access import (
     show,
 )
 from test_board_ground import city, rows_of
-from test_board_view import HEIGHTS, is_in, spots
 
 sparse = load("scipy.sparse")
 csgraph = load("scipy.sparse.csgraph")

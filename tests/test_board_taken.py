@@ -11,12 +11,12 @@ import numpy
 import pytest
 from board_pages import Page
 from board_running import board
+from board_views import grid_table
 from desk_shared import PIPES
 from packages import load
 from test_board_access import as_before, show
 from test_board_dots import DRAWN
 from test_board_ground import city
-from test_board_view import grid_table
 
 pytestmark = pytest.mark.seconds(30)
 # The edges of the part of the picture that nothing covers.

@@ -10,11 +10,11 @@ from urllib.parse import urlencode
 import pytest
 from board_pages import Page
 from board_running import Board, board
+from board_views import grid_table
 from desk_shared import PIPES
 from test_board_access import as_before, show
 from test_board_ground import rows_of
 from test_board_sizes import value_of
-from test_board_view import grid_table
 
 pytestmark = pytest.mark.seconds(20)
 TEXTS = {"0": 0, "1": 1, "30": 30, "+100 %": None}

@@ -14,10 +14,10 @@ from xml.etree import ElementTree
 import pytest
 from board_pages import Page
 from board_running import board as running
-from dmf.desk.board.arrows import SVG
-from dmf.desk.board.layout import Spot
 from dmf.desk.board.overview import Overview
 from dmf.desk.board.routes import Board
+from dmf.desk.pictures.arrows import SVG
+from dmf.desk.pictures.layout import Spot
 from dmf.desk.workspace import Desk
 from dmf.tables.loader import TableOptions, subject_of
 

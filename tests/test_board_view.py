@@ -4,94 +4,23 @@ and by plain requests."""
 from __future__ import annotations
 
 import json
-import math
 from collections.abc import Callable
 from pathlib import Path
 from typing import Any
-from xml.etree import ElementTree
 
 import pytest
 from board_pages import Page
-from board_running import Board, board
-from desk_shared import PIPES, run
-from test_board_ground import city
+from board_running import board
+from board_views import BARE, HEIGHTS, NAMELESS_ENDS, SCALE, grid_table, is_in, seen, spots
+from desk_shared import PIPES
 
 pytestmark = pytest.mark.seconds(20)
-SVG = "{http://www.w3.org/2000/svg}"
-# The middle of each place of a picture, by its node, and the box of the picture that is seen.
-SEEN = """
-const box = document.getElementById("picture").getBoundingClientRect();
-const [node, place] = [document.querySelector(arguments[0]).getBoundingClientRect(), box];
-const right = place.right - node.right, bottom = place.bottom - node.bottom;
-return [node.left - place.left, node.top - place.top, right, bottom, node.width];
-"""
-# How high the letters of each label on the screen are that is seen.
-HEIGHTS = """
-const labels = [...document.querySelectorAll("#picture .node text, #picture .arc text")];
-return labels.filter((text) => text.checkVisibility()).map((text) =>
-  Number(getComputedStyle(text).fontSize.slice(0, -2)) * text.getScreenCTM().a);
-"""
-
-
-# The parts of the picture that have no label, although neither an edge of the window nor what lies
-# over the picture cuts them, apart from lines shorter than a label, beside which it may lie nearer
-# to another part; and the source and the sink, if they have none.
-BARE = """
-const box = (it) => it.getBoundingClientRect();
-const over = ["head", "foot", "panel", "fold"].map((id) => box(document.getElementById(id)));
-return [...document.querySelectorAll("#picture .unlabelled")].filter((part) => {
-  const { left, top, right, bottom } = box(part);
-  const isShort = Math.max(right - left, bottom - top) < 80;
-  const isIn = left > 0 && top > 0 && right < innerWidth && bottom < innerHeight;
-  const isOut = left > innerWidth || top > innerHeight || right < 0 || bottom < 0;
-  return !isShort && (isIn || isOut) && over.every((it) =>
-    it.left > right || it.right < left || it.top > bottom || it.bottom < top);
-}).map((part) => part.id);
-"""
 # A point of the picture on which no part lies, from the middle of the window.
 FREE = """
 const at = [...Array(40).keys()].map((it) => [it * 7 - 140, it % 2 ? 40 : -40]);
 return at.find(([x, y]) =>
   !document.elementFromPoint(innerWidth / 2 + x, innerHeight / 2 + y).closest(".node, .arc"));
 """
-# How many pixels a unit of the picture has.
-SCALE = "return document.querySelector('#picture svg').getScreenCTM().a"
-NAMELESS_ENDS = """
-return [...document.querySelectorAll("#picture .node.unlabelled")].filter((part) =>
-  part.querySelectorAll("ellipse:not(.halo)").length > 1).map((part) => part.id);
-"""
-
-
-def grid_table(folder: Path, side: int) -> str:
-    """A square of places with an arc to the right and an arc down from each, and a lake and a sea
-    at its ends."""
-    rows = [
-        f"Lake,P{row}_0,{row % 5 + 20},in {row}\nP{row}_{side - 1},Sea,{row % 3 + 20},out {row}\n"
-        for row in range(side)
-    ]
-    for row in range(side):
-        for column in range(side):
-            least = (row * 7 + column * 3) % 11 + 1
-            rows += [f"P{row}_{column},P{row}_{column + 1},{least},right {row} {column}\n"] * (
-                column + 1 < side
-            )
-            rows += [f"P{row}_{column},P{row + 1}_{column},{least + 2},down {row} {column}\n"] * (
-                row + 1 < side
-            )
-    table = folder / "grid.csv"
-    table.write_text("from,to,litres,pipe\n" + "".join(rows))
-    return str(table)
-
-
-def spots(it: Board, near: str = "") -> dict[str, tuple[str, str]]:
-    """Where the picture has the middle of each place."""
-    root = ElementTree.fromstring(json.loads(it.ask(it.root + f"picture?near={near}")[2])["svg"])
-    nodes = (group for group in root.iter(f"{SVG}g") if (group.get("id") or "").startswith("node-"))
-    found = {}
-    for group in nodes:
-        ellipse = next(group.iter(f"{SVG}ellipse"))
-        found[group.get("id") or ""] = ellipse.get("cx") or "", ellipse.get("cy") or ""
-    return found
 
 
 def test_places_stay(tmp_path: Path) -> None:
@@ -165,15 +94,6 @@ def test_new_place_is_near(tmp_path: Path) -> None:
         assert nearer > len(after) / 2
 
 
-def seen(page: Page, what: str) -> list[float]:
-    return list(page.driver.execute_script(SEEN, what))
-
-
-def is_in(page: Page, what: str) -> bool:
-    """Whether a part of the picture is seen whole."""
-    return min(seen(page, what)[:4]) >= -1
-
-
 @pytest.mark.parametrize("side", [0, 7, 40])
 def test_view(driver: Any, tmp_path: Path, side: int) -> None:
     """At each width the sink is seen, labels are at least 11 pixels high, and the picture is
@@ -216,43 +136,6 @@ def judge_labels(page: Page) -> None:
         assert min(heights, default=11) >= 10.99, (key, min(heights))
         assert key != "0" or page.driver.execute_script(NAMELESS_ENDS) == []
     assert page.driver.execute_script(BARE) == []
-
-
-# The labels that are seen and lie over one another, by more than a third of the smaller one.
-OVER = """
-const parts = [...document.querySelectorAll("#picture .node, #picture .arc")];
-const boxes = parts.filter((part) => !part.matches(".unlabelled")).map((part) => {
-  const all = [...part.querySelectorAll("text")].map((text) => text.getBoundingClientRect());
-  const [left, top] = [Math.min(...all.map((it) => it.left)), Math.min(...all.map((it) => it.top))];
-  const right = Math.max(...all.map((it) => it.right));
-  const bottom = Math.max(...all.map((it) => it.bottom));
-  return { id: part.id, left, top, right, bottom };
-});
-const size = (it) => Math.max(0, it.right - it.left) * Math.max(0, it.bottom - it.top);
-const both = (one, other) => ({
-  left: Math.max(one.left, other.left), right: Math.min(one.right, other.right),
-  top: Math.max(one.top, other.top), bottom: Math.min(one.bottom, other.bottom) });
-return boxes.flatMap((one, place) => boxes.slice(place + 1)
-  .filter((other) => size(both(one, other)) > Math.min(size(one), size(other)) / 3)
-  .map((other) => `${one.id} ${other.id}`));
-"""
-
-
-def test_labels_on_a_map(driver: Any, tmp_path: Path) -> None:
-    """Where places lie as on a map no label hides another one, at any size, and in the largest all
-    that is seen whole has one."""
-    with board(*city(tmp_path, 7)) as it:
-        page = Page(driver, it.address)
-        for key in "0----0" + 20 * "+":
-            page.driver.find_element("id", "picture").send_keys(key)
-            page.driver.execute_async_script(
-                "requestAnimationFrame(() => requestAnimationFrame(arguments[0]))"
-            )
-            assert page.driver.execute_script(OVER) == [], key
-            assert min(page.driver.execute_script(HEIGHTS), default=11) >= 10.99
-            assert key != "0" or driver.execute_script(NAMELESS_ENDS) == []
-        assert driver.execute_script(BARE) == []
-        driver.get("about:blank")
 
 
 def judge_moves(page: Page, sink: str) -> None:
@@ -385,77 +268,3 @@ def test_show_near(driver: Any, tmp_path: Path) -> None:
         page.press("Show what is near the bottleneck")
         page.wait(lambda: "nearest to the bottleneck" in page.text("#drawn-note"))
         driver.get("about:blank")
-
-
-# Places of the water story on a map, as people write them.
-MAPS = [
-    "place,x,y\nReservoir,0,0\nMill,400.5,100\nHarbour,1000,-50\nElsewhere,1,1\n",
-    "Ort;Lon;Lat\nReservoir;8,5;47,3\nMill;8,9;47,4\nHarbour;9,5;47,25\n",
-]
-WRONG_MAPS: list[tuple[str, str]] = [
-    (
-        "place,a,b\nReservoir,1,2\n",
-        "line 1: a map has the columns place, x and y, or place, lon and lat; here are 'place', "
-        "'a', 'b'",
-    ),
-    ("place,x,y\nReservoir,one,2\nMill,1,\n", "line 2, column 2: 'one' is not a number"),
-    ("place,lon,lat\nReservoir,190,2\n", "line 2, column 2: '190' is past 180 degrees"),
-    (
-        "place,x,y\nReservoir,1,2\nReservoir,1,2\n",
-        "line 3, column 1: the place 'Reservoir' stands twice",
-    ),
-    (
-        "place;x;y\nReservoir;8.541;2\nMill;1;3\n",
-        "'8.541' can be read in two ways; say --decimal . or --decimal ,",
-    ),
-    ("place,x,y\n", "the table has titles, and no row below them"),
-    ("place,x,y\nNowhere,1,2\n", "no place of the map is one of the network"),
-]
-
-
-def test_map(tmp_path: Path) -> None:
-    """Places lie as on the map: their distances are those of the map times one number. The others
-    lie near their neighbours, and stay."""
-    table = tmp_path / "map.csv"
-    for text in MAPS:
-        table.write_text(text)
-        rows = [
-            line.replace(",", ".").split(";") if ";" in line else line.split(",")
-            for line in text.splitlines()[1:]
-        ]
-        degrees = math.cos(math.radians((47.25 + 47.4) / 2)) if ";" in text else 1.0
-        wanted = {
-            name: (float(x) * degrees, -float(y)) for name, x, y in rows if name != "Elsewhere"
-        }
-        with board(PIPES, "--map", str(table)) as it:
-            nodes = {
-                name: f"node-{it.told(f'find?text={name}')['found'][0]['node']}" for name in wanted
-            }
-            seen = spots(it)
-            ratios = [
-                (float(seen[nodes[one]][axis]) - float(seen[nodes[other]][axis]))
-                / (wanted[one][axis] - wanted[other][axis])
-                for axis in (0, 1)
-                for one in wanted
-                for other in wanted
-                if one < other
-            ]
-            assert ratios == [pytest.approx(ratios[0], rel=1e-3)] * len(ratios) and ratios[0] > 0
-            it.do(what="add", tail=1, head="Harbour", capacity="5", name="")
-            now = spots(it)
-            assert [now[node] for node in nodes.values()] == [seen[node] for node in nodes.values()]
-
-
-def test_wrong_maps(tmp_path: Path) -> None:
-    """A map that cannot be read is refused, with the place where it is wrong."""
-    table = tmp_path / "map.csv"
-    for text, wanted in WRONG_MAPS:
-        table.write_text(text)
-        ran = run("dmf-board", "--no-browser", "--map", str(table), PIPES)
-        wanted = f"{table}{', ' if wanted.startswith('line') else ': '}{wanted}"
-        assert (ran.returncode, ran.stdout) == (
-            3,
-            "",
-        ) and f"dmf-board: {wanted}\n" in ran.stderr, (text, ran)
-    ran = run("dmf-board", "--no-browser", "--map", str(tmp_path / "none.csv"), PIPES)
-    assert ran.returncode == 4 and "none.csv" in ran.stderr, ran

@@ -9,7 +9,7 @@ from random import Random
 from typing import Any
 
 import pytest
-from board_pages import Page
+from board_pages import Page, told_loss
 from board_running import Board, board
 from built import heed_interrupts
 from c_library import library_file
@@ -194,7 +194,7 @@ def test_page(driver: Any) -> None:
         assert "3 more cost something" in page.text("#worst-note")
         driver.execute_script("document.querySelector('#worst-table tbody button').click()")
         page.wait(lambda: wanted[0] in page.text("#what h3"))
-        page.wait(lambda: page.fact("Closing this") == f"165 → {left[wanted[0]]}")
+        page.wait(lambda: page.fact("Closing this") == told_loss(165, left[wanted[0]]))
         page.press("All")
         cells = (
             "return [...document.querySelectorAll('#grid tbody td.lost')].map(it => it.textContent)"
@@ -229,12 +229,12 @@ def test_places_on_the_page(driver: Any) -> None:
         assert page.text("#worst-places-note").endswith("if one of these places is shut.")
         driver.execute_script("document.querySelector('#worst-places-table tbody button').click()")
         page.wait(lambda: page.text("#what h3") == costly[0])
-        page.wait(lambda: page.fact("Shutting it") == f"165 → {left[costly[0]]}")
+        page.wait(lambda: page.fact("Shutting it") == told_loss(165, left[costly[0]]))
         it.do(what="close", arc=NAMES.index("Bridge pipe") + 1)
         page.wait(lambda: page.value() == 155)
         pipes = [one for one in water() if one.name != "Bridge pipe"]
         less = greatest([one for one in pipes if costly[0] not in one[:2]])
-        page.wait(lambda: page.fact("Shutting it") == f"155 → {less}")
+        page.wait(lambda: page.fact("Shutting it") == told_loss(155, less))
         it.do(what="shut", node=PLACES.index(costly[0]) + 1)
         page.wait(lambda: page.value() == less)
         page.wait(lambda: page.text("#what .chips") == "shut")

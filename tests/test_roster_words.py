@@ -12,10 +12,10 @@ from xml.etree import ElementTree
 import pytest
 from board_pages import Page
 from board_running import board
+from board_views import SVG
 from desk_shared import PIPES, ROOT, run
 from project_shared import new_project
 from test_board_access import as_before, show
-from test_board_view import SVG
 
 pytestmark = pytest.mark.seconds(20)
 OPTIONS = "--shift", "8", "--daily", "1"

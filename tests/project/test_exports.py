@@ -21,9 +21,9 @@ from xml.etree import ElementTree
 import pytest
 from client_shared import dmf
 from desk_shared import ROOT, run
-from dmf.desk.board.picture import Picture
 from dmf.desk.board.routes import Board
 from dmf.desk.export import drawn, problem, table, taken
+from dmf.desk.pictures.picture import Picture
 from dmf.desk.project.report import report
 from dmf.desk.project.scenarios import project_of
 from dmf.desk.workspace import Desk

@@ -3,16 +3,11 @@ no other, in which names are text."""
 
 from __future__ import annotations
 
-import itertools
-import random
 import re
 import shutil
 from pathlib import Path
-from typing import Any
-from xml.etree import ElementTree
 
 import dmf
-import networkx
 import pytest
 from client_shared import BUILT
 from desk_shared import (
@@ -27,28 +22,14 @@ from desk_shared import (
     water,
     water_problem,
     without,
+    worst_pairs_of_water,
 )
-from dmf.desk.project import report as project_findings
 from dmf.desk.project.report import checked, findings, report
 from dmf.desk.project.scenarios import project_of
 from dmf.desk.steps import DeskFault
 from dmf.desk.workspace import Desk
-from dmf.errors import NumberTooLarge
 from project_shared import named, new_project, supply_project, water_project
 from report_page import Page, judge_labels, limits, named_in, rows_below
-
-
-def worst_pairs_of_water() -> list[tuple[str, str, str]]:
-    """The names of the five worst pairs of the story, what is lost and what is left."""
-    pipes = water()
-    left = {
-        pair: greatest([it for it in pipes if it not in pair])
-        for pair in itertools.combinations(pipes, 2)
-    }
-    return [
-        (" and ".join(it.name for it in pair), str(165 - left[pair]), str(left[pair]))
-        for pair in sorted(left, key=left.__getitem__)[:5]
-    ]
 
 
 def test_water(tmp_path: Path) -> None:
@@ -62,21 +43,14 @@ def test_water(tmp_path: Path) -> None:
     project_of(desk).new("today")
     page = Page(report(desk))
     assert [row for row in page.rows if row[0] in ("base", "no bridge", "new pipe", "today")] == [
-        ["base", "165", "", "0"],
-        ["no bridge", "155", "10 less", "1"],
-        ["new pipe", "180", "15 more", "1"],
-        ["today", "165", "no change", "0"],
+        ["base", "", "165", ""],
+        ["no bridge", "close Bridge pipe", "155", "10 less"],
+        ["new pipe", "add New, Mill -> Station, 25 litres per second", "180", "15 more"],
+        ["today", "", "165", "no change"],
     ]
     assert {165, 155, 180} <= set(STORY)
-    for arcs in (
-        {"North rise": "60", "Mill Lane": "45", "South main": "60"},
-        {"North rise": "60", "South rise": "50", "Mill Lane": "45"},
-        {"North rise": "60", "Mill pipe": "40", "Canal pipe": "30", "South rise": "50"},
-    ):
-        assert any(
-            {row[0].partition(",")[0]: row[1] for row in rows if len(row) == 2} == arcs
-            for rows in limits(page)
-        ), arcs
+    assert "and 1 scenario more, in the table alone" in page.text
+    judge_scenarios(desk)
     wanted = swept()
     tried = {
         (row[0].partition(",")[0], row[1], row[2])
@@ -116,17 +90,40 @@ def test_water(tmp_path: Path) -> None:
     assert listed == sorted((int(loss) for _, loss, _ in losses), reverse=True)[:10]
     assert f"and {len(losses) - 10} more" in page.text
     assert [*map(str, re.findall("c greatest ([0-9]+)", page.text))] == ["165", "155", "180", "165"]
-    assert len(page.pictures) == 4 and all(
-        ElementTree.fromstring(it).tag.endswith("svg") for it in page.pictures
-    )
-    # What is closed is dashed, and it and what is new have their names.
-    assert ["stroke-dasharray" in it for it in page.pictures] == [False, True, False, False]
-    assert {"Bridge pipe", "closed"} <= named_in(page.pictures[1])
-    assert "New" in named_in(page.pictures[2])
-    for picture in page.pictures:
-        judge_labels(picture)
     assert (project_of(desk).scenario.name, desk.value) == ("today", 165)
     desk.end()
+
+
+# The bottleneck of each scenario of the story, as its page names it.
+BOTTLENECKS = {
+    "today": {"North rise": "60", "Mill Lane": "45", "South main": "60"},
+    "no bridge": {"North rise": "60", "South rise": "50", "Mill Lane": "45"},
+    "new pipe": {"North rise": "60", "Mill pipe": "40", "Canal pipe": "30", "South rise": "50"},
+}
+
+
+def judge_scenarios(desk: Desk) -> None:
+    """A report of each scenario has its bottleneck, whose parts its picture names, with what it
+    changed; what is closed is dashed, and each of the two other pictures is of a scenario."""
+    for name, arcs in BOTTLENECKS.items():
+        project_of(desk).go(name)
+        page = Page(report(desk))
+        [rows] = limits(page)
+        assert {row[0].partition(",")[0]: row[1] for row in rows} == arcs
+        assert f"together {sum(map(int, arcs.values()))} litres per second" in page.text
+        present, base, other = page.pictures
+        for picture in page.pictures:
+            judge_labels(picture)
+        assert arcs.keys() <= named_in(present) and BOTTLENECKS["today"].keys() <= named_in(base)
+        is_closed = name == "no bridge"
+        assert ["stroke-dasharray" in it for it in page.pictures] == [
+            is_closed,
+            False,
+            not is_closed,
+        ]
+        assert {"Bridge pipe", "closed"} <= named_in(present if is_closed else other)
+        assert ("New" in named_in(present)) == (name == "new pipe")
+    project_of(desk).go("today")
 
 
 def test_demands(tmp_path: Path) -> None:
@@ -169,7 +166,9 @@ def test_alone(tmp_path: Path) -> None:
         "iframe",
         "b",
     }
-    assert "</h2><script>" + ODD in page.headings and ODD + "\nline two" in page.text
+    name = "</h2><script>" + ODD
+    assert f"Worst to lose, best to have twice: {name}" in page.headings
+    assert f" · {name} · " in page.text and ODD + "\nline two" in page.text
     desk.end()
 
 
@@ -193,118 +192,6 @@ def test_nothing_can_be_sent(tmp_path: Path) -> None:
     desk.end()
 
 
-def test_what_is_not_tried_is_said(tmp_path: Path, monkeypatch: pytest.MonkeyPatch) -> None:
-    """Second ones beside a part of the bottleneck alone, if each takes a solve by the program; and
-    no losses in a network that is too large to ask for them."""
-    monkeypatch.setenv("DMF_LIBRARY", "")
-    monkeypatch.setattr(project_findings, "MOST_TRIED", 2)
-    monkeypatch.setattr(project_findings, "LARGE", 15)
-    desk = water_project(tmp_path)
-    found, wanted = findings(desk).tried, swept()
-    assert found.losses and found.losses.worst_arcs.more == len(
-        [closed for closed, _ in wanted.values() if closed < 165]
-    ) - len(found.losses.worst_arcs.losses)
-    gains = {name.partition(",")[0]: gain for name, gain in found.gains.losses}
-    assert gains == {name: wanted[name][1] - 165 for name in ("North rise", "Mill Lane")}
-    said = "A second one was tried beside the first 2 of the 3 parts of the bottleneck"
-    assert said in Page(report(desk)).text
-    monkeypatch.setattr(project_findings, "LARGE", 14)
-    text = Page(report(desk)).text
-    assert "There are too many pipes here to find what the loss of each would cost." in text
-    assert findings(desk).tried.losses is None and "loses" not in text
-    desk.end()
-
-
-@pytest.mark.usefixtures("by_library")
-def test_the_best_to_have_twice(tmp_path: Path, monkeypatch: pytest.MonkeyPatch) -> None:
-    """The five of all parts of the bottleneck beside which a second one brings most, and how many
-    more bring something. By hand: each pipe from the well is as good as a wider one up to 50."""
-    monkeypatch.setattr(project_findings, "MOST_TRIED", 2)
-    names = ["Ash", "Birch", "Cedar", "Elm", "Fir", "Gorse", "Hazel", "Ivy"]
-    rows = [f"Well,{name},{30 - 3 * at},{name}\n{name},Town,50," for at, name in enumerate(names)]
-    rows[6] = "Well,Hazel,12,Hazel\nHazel,Town,12,"
-    (tmp_path / "ways.csv").write_text("from,to,litres,name\n" + "\n".join(rows) + "\n")
-    desk = new_project(tmp_path, "ways.csv")
-    page = Page(report(desk))
-    value = sum(30 - 3 * at for at in range(8))
-    gains = [20, 23, 24, 21, 18, 15, 0, 9]
-    ranked = sorted(zip(gains, names), key=lambda it: (-it[0], it[1]))
-    listed = rows_below(page, "with a second one beside it")
-    assert [(name.partition(",")[0], by, then) for name, by, then in listed] == [
-        (name, str(by), str(value + by)) for by, name in ranked[:5]
-    ]
-    assert "A second one was tried beside each part of the bottleneck" in page.text
-    assert findings(desk).tried.gains.more == 2
-    desk.end()
-
-
-def test_the_worst_of_all_arcs(tmp_path: Path) -> None:
-    """The ten arcs that are worst to lose of more than 300, and the five places, beside networkx,
-    which solves without each. Most of them are not in the bottleneck."""
-    chance, size, graph = random.Random(7), 13, networkx.DiGraph()
-    for row, column, down in itertools.product(range(size), range(size), (0, 1)):
-        if max(row + down, column + 1 - down) < size:
-            head = f"P{row + down}-{column + 1 - down}"
-            is_inner = 5 < row + column < 2 * size - 8
-            most = chance.randint(3, 9) * (1 if is_inner else 20)
-            graph.add_edge(f"P{row}-{column}", head, capacity=most)
-    rows = [f"{tail},{head},{most}" for tail, head, most in graph.edges(data="capacity")]
-    (tmp_path / "town.csv").write_text("from,to,litres\n" + "\n".join(rows) + "\n")
-    ends = "P0-0", f"P{size - 1}-{size - 1}"
-    words = ["--source", ends[0], "--sink", ends[1], f"{tmp_path}/town.csv"]
-    ran = run("dmf-plan", *words, typed=f"solve\nreport {tmp_path}/report.html\n")
-    assert ran.returncode == 0, ran.stderr
-
-    def left(graph: Any) -> int:
-        return int(networkx.maximum_flow_value(graph, *ends))
-
-    def without(take: str, what: Any) -> int:
-        other = graph.copy()
-        getattr(other, take)(*what)
-        return left(other)
-
-    value = left(graph)
-    arcs = sorted(without("remove_edge", it) for it in graph.edges)
-    places = sorted(without("remove_node", (it,)) for it in graph.nodes if it not in ends)
-    page = Page((tmp_path / "report.html").read_text())
-    titles = ["closed", "place that is shut", "with a second one beside it"]
-    found = rows_below(page, titles[0])
-    assert [int(row[2]) for row in found] == arcs[:10] and len(graph.edges) > 300
-    for arc, loss, then in found:
-        assert without("remove_edge", arc.split(" -> ")) == int(then) == value - int(loss)
-    listed = rows_below(page, titles[1])
-    assert [int(row[2]) for row in listed] == places[:5]
-    for place, loss, then in listed:
-        assert without("remove_node", (place,)) == int(then) == value - int(loss)
-    limit = {row[0] for table in limits(page) for row in table}
-    assert {row[0] for row in found} - limit
-    assert f"for all {len(graph.edges)} arcs and {len(graph.nodes) - 2} places" in page.text
-
-
-def test_the_worst_pairs(tmp_path: Path, monkeypatch: pytest.MonkeyPatch) -> None:
-    """The five pairs that are worst to lose, beside trying all sets of places without both; of a
-    network that is too large, and of a list that would be too long, none, with a sentence."""
-    desk = water_project(tmp_path)
-    page = Page(report(desk))
-    assert rows_below(page, "closed together") == [[*row] for row in worst_pairs_of_water()]
-    assert "Of all pairs of open pipes, the table lists those that cost most to lose" in page.text
-    said = "There are too many pipes here to find the two that cost most to lose together"
-
-    def refused(*_: object) -> None:
-        raise NumberTooLarge("too many")
-
-    for name, by in ("MOST_PAIRED", 13), ("worst_pairs", refused):
-        with monkeypatch.context() as patched:
-            patched.setattr(project_findings, name, by)
-            page = Page(report(desk))
-            assert said in page.text and "closed together" not in page.text
-            assert len(rows_below(page, "closed")) == 10
-    # Without a flow no pair costs anything.
-    desk.shut(desk.network.names.place("Harbour"))
-    assert "Closed together, no two cost anything." in Page(report(desk)).text
-    desk.end()
-
-
 def test_a_roster(tmp_path: Path) -> None:
     """A report of a roster speaks of people and shifts, also from a project, and names each person
     and each shift of the bottleneck in its picture. The numbers are those of the story."""
@@ -314,8 +201,9 @@ def test_a_roster(tmp_path: Path) -> None:
     assert ran.returncode == 0, ran.stderr
     page = Page((tmp_path / "report.html").read_text())
     for said in (
-        "rota: how many hours can be staffed",
-        "10 people and 9 shifts, in hours.",
+        "120 hours can be staffed",
+        "10 people and 9 shifts",
+        "Short: Sun night 8.",
         "All that is staffed counts against these 7, and together they allow 120 hours at most.",
         "1 of 9 shifts is short.",
         "Each value is the most that can be staffed with only this connection closed, or only this "

@@ -4,7 +4,6 @@ letter can be read."""
 from __future__ import annotations
 
 import base64
-import itertools
 import random
 import re
 import shutil
@@ -12,7 +11,6 @@ import subprocess
 from collections.abc import Iterator
 from pathlib import Path
 from typing import Any
-from xml.etree import ElementTree
 
 import pytest
 from desk_shared import ROOT, run
@@ -20,13 +18,11 @@ from dmf.desk.project.report import report
 from dmf.desk.project.scenarios import project_of
 from packages import load
 from project_shared import water_project
-from report_page import Page, judge_labels, limits
+from report_page import Page, judge_labels, limits, named_in
 
 
-def test_labels_are_read_on_paper(tmp_path: Path) -> None:
-    """The picture of a town has at most 30 labels, each at least 8 points high on a sheet of A4,
-    and none on another or on a line; all of the bottleneck are among them. No list has more than
-    five names without saying how many more there are."""
+def town() -> str:
+    """A table of 100 places in a square, with pipes to the right and down."""
     chance = random.Random(4)
     rows = [
         f"P{row}{column},P{row + down}{column + 1 - down},{chance.randint(3, 9)},{row}{column}"
@@ -36,32 +32,29 @@ def test_labels_are_read_on_paper(tmp_path: Path) -> None:
     ]
     rows += [f"P9{at},P9{at + 1},4,last {at}" for at in range(9)]
     rows += [f"P{at}9,P{at + 1}9,4,right {at}" for at in range(9)]
-    (tmp_path / "town.csv").write_text("from,to,litres,pipe\n" + "\n".join(rows) + "\n")
+    return "from,to,litres,pipe\n" + "\n".join(rows) + "\n"
+
+
+TOWN = town()
+
+
+def test_labels_are_read_on_paper(tmp_path: Path) -> None:
+    """The picture of a town has at most 30 labels, each at least 8 points high on a sheet of A4,
+    and none on another or on a line; all of the bottleneck are among them. No list has more than
+    five names without saying how many more there are."""
+    (tmp_path / "town.csv").write_text(TOWN)
     words = ["--source", "P00", "--sink", "P99", f"{tmp_path}/town.csv"]
     ran = run("dmf-plan", *words, typed=f"solve\nreport {tmp_path}/report.html\n")
     assert ran.returncode == 0, ran.stderr
     page = Page((tmp_path / "report.html").read_text())
-    [picture] = page.pictures
-    root = ElementTree.fromstring(picture)
-    _, _, width, height = map(float, (root.get("viewBox") or "").split())
-    # In points: a sheet of 210 mm less its margins of 16 mm and those of the frame.
-    by = min((210 - 2 * 16) / 25.4 * 72 / width, 116 / 25.4 * 72 / height)
-    labels = []
-    for group in root.iter("{http://www.w3.org/2000/svg}g"):
-        texts = group.findall("{http://www.w3.org/2000/svg}text")
-        if texts:
-            labels.append([(float(it.get("x") or 0), float(it.get("y") or 0)) for it in texts])
-            assert all(float(it.get("font-size") or 0) * by >= 8 for it in texts)
-    assert 5 < len(labels) <= 30
-    spots = [spot for label in labels for spot in label]
-    assert all(
-        abs(one[1] - other[1]) * by >= 8 or abs(one[0] - other[0]) * by >= 8
-        for one, other in itertools.combinations(spots, 2)
-    )
+    [text] = page.pictures
+    picture = judge_labels(text)
+    # In points: a sheet of 210 mm less its margins of 15 mm and the frame of the picture.
+    by = ((210 - 2 * 15) / 25.4 * 72 - 4) / picture.width
+    sizes = [size * by for texts in picture.labels.values() for _, size, *_ in texts]
+    assert min(sizes) >= 8 and 5 < len(picture.labels) <= 30
     limit = {row[0].partition(",")[0] for rows in limits(page) for row in rows}
-    names = {it.text for it in root.iter("{http://www.w3.org/2000/svg}text")}
-    assert limit and limit <= names
-    judge_labels(picture)
+    assert limit and limit <= named_in(text)
     assert re.search("Before it: (?:[^,]+, ){4}[^,]+ and [0-9]+ more", page.text)
 
 
@@ -160,6 +153,49 @@ def test_it_is_read_on_paper(tmp_path: Path, driver: Any, story: str) -> None:
     sizes = driver.execute_script(PRINTED)
     driver.execute_cdp_cmd("Emulation.setEmulatedMedia", {"media": ""})
     assert len(sizes) > 50 and [it for it in sizes if it[1] < 8] == []
+
+
+@pytest.mark.parametrize("count", [1, 2, 6])
+def test_it_has_two_pages(tmp_path: Path, driver: Any, count: int) -> None:
+    """However many scenarios there are, a report of a town has at most two pages, lists all of them
+    in a table, and shows two beside the present one; its paper is white, also from a dark
+    screen."""
+    (tmp_path / "town.csv").write_text(TOWN)
+    words = ["--source", "P00", "--sink", "P99", f"{tmp_path}/town.csv", "--keep"]
+    steps = [
+        f"scenario new S{at}\nclose #{9 * at}\nclose #{9 * at + 5}\n" for at in range(1, count)
+    ]
+    typed = f"{''.join(steps)}report {tmp_path}/report.html\n"
+    assert run("dmf-plan", *words, typed=typed).returncode == 0
+    page = Page((tmp_path / "report.html").read_text())
+    # The network of the table is one more.
+    assert len(page.pictures) == min(3, count + 1)
+    names = {"base", *(f"S{at}" for at in range(1, count))}
+    assert names <= {row[0] for row in page.rows if len(row) == 4}
+    shown(driver, tmp_path / "report.html", 1280, "dark")
+    driver.execute_cdp_cmd("Emulation.setEmulatedMedia", {"media": "print"})
+    back = driver.execute_script("return getComputedStyle(document.body).backgroundColor")
+    ink = driver.execute_script("return getComputedStyle(document.body).color")
+    assert [*map(int, re.findall("[0-9]+", back))][:3] == [255] * 3
+    assert max(map(int, re.findall("[0-9]+", ink)[:3])) < 60
+    pdf = base64.b64decode(
+        driver.execute_cdp_cmd("Page.printToPDF", {"preferCSSPageSize": True})["data"]
+    )
+    driver.execute_cdp_cmd("Emulation.setEmulatedMedia", {"media": ""})
+    assert 1 <= pdf.count(b"/Type /Page\n") <= 2
+
+
+def test_no_list_is_long(tmp_path: Path) -> None:
+    """Of 40 places that nothing leads to, the report names five: by the line of each, in which it
+    stands first."""
+    rows = [f"Lone{at},Mill,1\n" for at in range(40)]
+    (tmp_path / "many.csv").write_text("from,to,litres\nWell,Mill,5\nMill,Town,5\n" + "".join(rows))
+    words = ["--source", "Well", "--sink", "Town", f"{tmp_path}/many.csv"]
+    ran = run("dmf-plan", *words, typed=f"solve\nreport {tmp_path}/report.html\n")
+    assert ran.returncode == 0, ran.stderr
+    text = Page((tmp_path / "report.html").read_text()).text
+    assert re.findall("'(Lone[0-9]+)' [(]line", text) == [f"Lone{at}" for at in range(5)]
+    assert "(line 8) and 35 more" in text
 
 
 def test_the_picture_of_the_story(tmp_path: Path, driver: Any, writes: bool) -> None:

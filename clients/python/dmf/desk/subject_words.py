@@ -22,7 +22,7 @@ class PageWords(NamedTuple):
     shutting it and of its end; `added` is asked of a new pipe, and `each` of all that are chosen,
     of which `flowing` says what they do; `flows` and `fits` are titles of the table, and `forms`
     examples of its filter; `whole` and `line` are the words for all and for one line in the
-    picture; `compared`, `more_flows`, `less_flows` and `not_flow` are of two scenarios."""
+    picture; `compared`, `more_flows` and `less_flows` are of two scenarios."""
 
     task: str
     brief_task: str
@@ -63,7 +63,6 @@ class PageWords(NamedTuple):
     compared: str
     more_flows: str
     less_flows: str
-    not_flow: str
 
     def tasks(self, sources: Sequence[str], sinks: Sequence[str]) -> list[str]:
         """Return the texts that say what the value is, the longest first: with the names of these
@@ -93,7 +92,6 @@ class Words(NamedTuple):
     """
 
     page: PageWords
-    question: str
     size: str
     crosses: str
     crosses_one: str
@@ -172,9 +170,7 @@ NETWORK = Words(
         compared="what flows",
         more_flows="more flows in the second",
         less_flows="less flows",
-        not_flow="not the flow",
     ),
-    question="what can be sent from {source} to {sink}",
     size="{arcs} between {places} places",
     crosses="All that is sent has to pass these {count}, and together they carry {value} at most. "
     "To widen only others brings nothing.",
@@ -245,9 +241,7 @@ ROSTER = Words(
         compared="what is staffed",
         more_flows="more is staffed in the second",
         less_flows="less is staffed",
-        not_flow="not what is staffed",
     ),
-    question="how {amount} can be staffed",
     size="{people} and {shifts}",
     crosses="All that is staffed counts against these {count}, and together they allow {value} at "
     "most. To raise only others brings nothing.",

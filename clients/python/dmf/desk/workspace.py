@@ -16,7 +16,6 @@ from __future__ import annotations
 
 import contextlib
 import copy
-import gc
 from array import array
 from collections.abc import Iterable, Iterator, Mapping, Sequence
 from dataclasses import replace
@@ -28,15 +27,16 @@ from ..session.base import Program
 from ..tables.loader import LoadedProblem
 from ..text.spelling import quoted_name
 from .answers import Answers, FirstAnswer, Limit
-from .desk_state import DeskState, Keeper
+from .desk_state import DeskState
 from .live_network import LiveNetwork
 from .pipes import TwoWayPipe
 from .running_networks import RunningNetworks
 from .scale import finer, past_64_bits
+from .step_history import StepHistory
 from .steps import Add, Cap, Change, Close, DeskFault, MakePlace, Place, Reopen, Shut, Solve, Step
 
 
-class Desk:
+class Desk(StepHistory):
     """A network, and the steps that were made on it. Calls raise `DeskFault` and what a network
     raises. Any error during a step ends the session, which might be between two steps: `has_ended`
     is True then, and `begin_again` makes the steps again on a new one.
@@ -52,8 +52,6 @@ class Desk:
         What has the networks of the desk, for a caller whose other threads may end them before the
         desk is made.
     """
-
-    keeper: Keeper | None = None
 
     def __init__(
         self,
@@ -225,11 +223,6 @@ class Desk:
         return self.state.turn
 
     @property
-    def trials(self) -> int:
-        """Return how many trials are open."""
-        return len(self.state.floors) - self.with_solve
-
-    @property
     def is_greatest(self) -> bool:
         """Return True if no flow has a larger value than the present one."""
         done = self.state.done
@@ -387,59 +380,6 @@ class Desk:
             network.words.open_step.format(place=label), [Reopen(number) for number in closed]
         )
 
-    def undo(self, count: int = 1) -> None:
-        """Undo the last steps, all of them or none."""
-        if self.keeper and count:
-            self.keeper.judge(count)
-        if count > self.at:
-            raise DeskFault(_only(self.at, "undo"))
-        if self.state.floors and self.at - count < self.state.floors[-1]:
-            raise DeskFault(
-                "the trial began there; `drop` or `keep` ends it"
-                if self.trials
-                else "nothing to undo"
-            )
-        self._move(self.at - count, self.state.floors)
-
-    def redo(self, count: int = 1) -> None:
-        """Redo the steps that were undone last, all of them or none."""
-        if self.keeper and count:
-            self.keeper.judge()
-        undone = len(self.steps) - self.at
-        if count > undone:
-            raise DeskFault(_only(undone, "redo"))
-        self._move(self.at + count, self.state.floors)
-
-    def go_to(self, at: int) -> None:
-        """Go back or forward to the state after the first `at` steps."""
-        if not 0 <= at <= len(self.steps):
-            raise DeskFault(f"step {at} does not exist")
-        if at <= self.at:
-            self.undo(self.at - at)
-        else:
-            self.redo(at - self.at)
-
-    def begin_trial(self) -> None:
-        """Begin a trial: what is done from here on is kept or dropped together."""
-        self.state = replace(self.state, floors=(*self.state.floors, self.at))
-
-    def keep(self) -> None:
-        """End the trial that began last, and keep what was done."""
-        self._refuse_no_trial()
-        self.state = replace(self.state, floors=self.state.floors[:-1])
-
-    def drop(self) -> None:
-        """End the trial that began last, and undo its steps, which `redo` can redo."""
-        self._refuse_no_trial()
-        *floors, floor = self.state.floors
-        if self.keeper and floor < self.at:
-            self.keeper.judge()
-        self._move(floor, tuple(floors))
-
-    def _refuse_no_trial(self) -> None:
-        if not self.trials:
-            raise DeskFault("no trial is open; `try` begins one")
-
     def step(self, text: str, changes: Sequence[Change], state: DeskState | None = None) -> Step:
         """Make a new step of these changes, in these words: from the present state on, or from the
         same one on another network."""
@@ -457,34 +397,3 @@ class Desk:
         after = replace(before, steps=steps, at=len(steps), turn=turn, answers=Answers())
         self.take(self.keeper.with_step(after, requests) if self.keeper else after)
         return steps[-1]
-
-    def _move(self, at: int, floors: tuple[int, ...]) -> None:
-        """Go to the state after the first `at` steps, in these trials."""
-        self.follow()
-        network, before = self.network, self.state
-        if at == before.at:
-            self.state = replace(before, floors=floors)
-            return
-        after = replace(
-            before, at=at, floors=floors, turn=before.turn + abs(at - before.at), answers=Answers()
-        )
-        after = after.as_made(network.stand_on(after.done))
-        self.take(self.keeper.with_place(after) if self.keeper else after)
-
-
-def _only(count: int, do: str) -> str:
-    """Return how many steps can be undone or redone, if more were asked for."""
-    return f"only {count} step{'s' * (count != 1)} to {do}" if count else f"nothing to {do}"
-
-
-@contextlib.contextmanager
-def without_collection() -> Iterator[None]:
-    """Turn garbage collection off for the block: among the objects of a million arcs it takes a
-    third of the time, and finds nothing."""
-    was_enabled = gc.isenabled()
-    gc.disable()
-    try:
-        yield
-    finally:
-        if was_enabled:
-            gc.enable()

@@ -27,7 +27,6 @@ from threading import Event, Thread
 from typing import TYPE_CHECKING
 
 from ..errors import TableFault
-from ..text.spelling import cleaned
 from .command import Status, ToolFault, statuses, warn, write
 from .desk_options import add_project_words, close_desk, open_desk, settled_desk
 from .options import RaisingParser, add_words, words_of
@@ -35,11 +34,10 @@ from .options import RaisingParser, add_words, words_of
 if TYPE_CHECKING:
     from collections.abc import Sequence
 
-    from ..desk.board.layout import Spot
-    from ..desk.board.maps import Map
     from ..desk.board.responses import Answering
     from ..desk.board.routes import Board
     from ..desk.board.server import Door, Server
+    from ..desk.pictures.layout import Spot
     from ..desk.workspace import Desk
 
 NAME = "dmf-board"
@@ -128,12 +126,11 @@ def spots_of(words: argparse.Namespace, desk: Desk) -> dict[int, Spot]:
     """Return where the places lie, if there is a map: one that was named, a table of places with
     the columns of a map, or the file of the network itself."""
     from ..desk.board.maps import NoMap, placed, read_map
+    from ..desk.pictures.map_spots import map_of_file
 
     path = words.map or words.place_table
     try:
-        given = (
-            _map_of_file(desk) if path is None else read_map(path, words.decimal, words.encoding)
-        )
+        given = map_of_file(desk) if path is None else read_map(path, words.decimal, words.encoding)
         if given is None:
             return {}
         spots, notes = placed(desk, given)
@@ -153,19 +150,6 @@ def spots_of(words: argparse.Namespace, desk: Desk) -> dict[int, Spot]:
     for note in notes:
         warn(NAME, f"{path or words.path}: {note}")
     return spots
-
-
-def _map_of_file(desk: Desk) -> Map | None:
-    """Return the map that is part of the network's file, or None."""
-    from ..desk.board.layout import Spot
-    from ..desk.board.maps import Map
-
-    plan = desk.network.subject.plan
-    positions = plan.arcs.sheet.positions if plan else None
-    if positions is None or not positions.spots:
-        return None
-    spots = {cleaned(name): Spot(*spot) for name, spot in positions.spots.items()}
-    return Map(spots, positions.is_globe)
 
 
 def has_screen() -> bool:

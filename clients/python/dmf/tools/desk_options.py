@@ -42,9 +42,10 @@ def open_desk(words: argparse.Namespace, *, with_solve: bool, may_follow: bool =
     what was assumed. With `may_follow`, and if no project keeps the steps, the flows may be
     computed later. Raises a `ToolFault`."""
     # A help needs no desk.
+    from ..desk.garbage_collection import without_collection
     from ..desk.project.opener import beside, is_project, project_desk
     from ..desk.steps import DeskFault
-    from ..desk.workspace import Desk, without_collection
+    from ..desk.workspace import Desk
     from ..tables.loader import Stages, read_subject, says_table
 
     try:

@@ -10,10 +10,10 @@ from ...quantity import EXACT, Quantity, QuantityFault, magnitude, number_in
 from ...session.base import Part
 from ...text.spelling import folded, quoted_name
 from ..expressions import COMPARED, Condition, amount, condition
+from ..pictures.looks import Beginning
 from ..steps import DeskFault
 from ..workspace import Desk
 from ..worth import left_without
-from .looks import Beginning
 
 AND, NOT, BEFORE = "and", "not", "before"
 # Other names of columns on the page, and of what dmf-plan calls the limit.

@@ -1,10 +1,8 @@
-"""The table of a map: where the places of a network lie, in a plane or on the globe."""
+"""The table of a map, which says where the places of a network lie, in a plane or on the globe."""
 
 from __future__ import annotations
 
-import math
-from collections.abc import Iterator, Mapping, Sequence
-from dataclasses import dataclass
+from collections.abc import Iterator, Sequence
 from typing import NamedTuple
 
 from ...errors import TableFault
@@ -17,15 +15,16 @@ from ...tables.table_file import TableFile
 from ...tables.titles import PLACE, USUAL, title_of
 from ...text.spelling import cleaned, quoted_name
 from ...text.table_comments import listed
+from ..pictures.layout import Spot
+from ..pictures.map_spots import Map, spots_on
 from ..project.scenarios import Scenarios
 from ..workspace import Desk
-from .layout import Spot
 
 # The usual titles of columns to the right and upwards: of a plane, and of the globe.
 PLANE = ("x easting east rechtswert".split(), "y northing north hochwert".split())
 GLOBE = ("lon longitude long lng".split(), "lat latitude".split())
-# The approximate distance of neighbours, in points; and the most degrees to the right and upwards.
-MAP_APART, DEGREES = 150.0, (180, 90)
+# The most degrees to the right and upwards.
+DEGREES = 180, 90
 
 
 class NoMap(TableFault):
@@ -38,15 +37,6 @@ class _MapColumns(NamedTuple):
     place: int
     right: int
     up: int
-    is_globe: bool
-
-
-@dataclass(frozen=True)
-class Map:
-    """The position of each place of a map, by its name, in the units of its table, and whether
-    these are degrees of the globe."""
-
-    spots: Mapping[str, Spot]
     is_globe: bool
 
 
@@ -142,14 +132,10 @@ def _sign_of(cells: Sequence[str]) -> str:
 
 def placed(desk: Desk, given: Map) -> tuple[dict[int, Spot], list[str]]:
     """Return the spots of the desk's places in a picture, by their nodes, and notes on the map."""
-    found = {
-        node: given.spots[name]
-        for name, node in desk.network.names.places.items()
-        if name in given.spots
-    }
+    found = spots_on(desk, given)
     if not found:
         raise TableFault("no place of the map is one of the network")
-    return dict(_to_points(found, given.is_globe)), list(_notes(desk, given, len(found)))
+    return found, list(_notes(desk, given, len(found)))
 
 
 def _notes(desk: Desk, given: Map, count: int) -> Iterator[str]:
@@ -165,21 +151,3 @@ def _notes(desk: Desk, given: Map, count: int) -> Iterator[str]:
     project = Scenarios.of(desk)
     if project and project.project.moved:
         yield f"the map takes back what was moved by hand: {listed(project.project.moved)}"
-
-
-def _to_points(spots: Mapping[int, Spot], is_globe: bool) -> Iterator[tuple[int, Spot]]:
-    """Yield the spots in points. Degrees of longitude are scaled by the cosine of the map's middle
-    latitude."""
-    lows, highs = (
-        [of(spot[axis] for spot in spots.values()) for axis in (0, 1)] for of in (min, max)
-    )
-    shrink = math.cos(math.radians((lows[1] + highs[1]) / 2)) if is_globe else 1.0
-    wide, high = (highs[0] - lows[0]) * shrink, highs[1] - lows[1]
-    # As far apart as places would be that fill such a map evenly, or lie on such a line.
-    points = (
-        MAP_APART * len(spots) ** 0.5 / (wide * high) ** 0.5
-        if wide and high
-        else MAP_APART * len(spots) / (wide or high or 1.0)
-    )
-    for node, spot in spots.items():
-        yield node, Spot((spot.x - lows[0]) * shrink * points, (spot.y - lows[1]) * points)

@@ -4,17 +4,16 @@ looks."""
 from __future__ import annotations
 
 import shutil
-from collections import defaultdict
 
 from ...quantity import plain_text
 from ...text.table_comments import AT_PLACE, DEMAND, SUPPLY
 from ..demands import limited_amounts
 from ..export import MOST_DRAWN
+from ..pictures.dots import share
+from ..pictures.layout import Places
+from ..pictures.looks import Looks, Mark
 from ..steps import DeskFault
 from ..workspace import Desk
-from .dots import share
-from .layout import Places, Spot
-from .looks import Looks, Mark
 from .responses import Json
 
 # The character for an arc that is not drawn: it belongs to a place, or was opened again as another.
@@ -128,19 +127,5 @@ class Overview:
         middle of all."""
         made = self._desk.network.names.made
         self._places.call(made)
-        places, nodes = self._places, [*self._nodes, *made]
-        beside: dict[int, list[int]] = defaultdict(list)
-        for tail, head in map(self._ends, self._desk.network.pictured()):
-            beside[tail].append(head)
-            beside[head].append(tail)
-        while left := [node for node in nodes if node not in places.spots]:
-            seen = places.seen
-            near = {node: [seen[one] for one in beside[node] if one in seen] for node in left}
-            rough = {node: _middle(found) for node, found in near.items() if found}
-            places.put_near(rough or dict.fromkeys(left, _middle(list(seen.values()))))
-
-
-def _middle(spots: list[Spot]) -> Spot:
-    return Spot(
-        sum(spot.x for spot in spots) / len(spots), sum(spot.y for spot in spots) / len(spots)
-    )
+        ways = map(self._ends, self._desk.network.pictured())
+        self._places.put_among([*self._nodes, *made], ways)

@@ -6,14 +6,15 @@ from __future__ import annotations
 import contextlib
 from collections.abc import Mapping
 
+from ..pictures.layout import Places, Spot
+from ..pictures.layout_run import LayoutRun
+from ..pictures.named_spots import moved_spots, take_named
+from ..pictures.picture import Picture
 from ..project.acts import place_name
 from ..project.records import DRAWN, MAP, PlaceName
 from ..project.scenarios import Scenarios
 from ..steps import DeskFault
 from ..workspace import Desk
-from .layout import Places, Spot
-from .layout_run import LayoutRun
-from .picture import Picture
 
 # The forms of windows for which places are laid out, in hundredths of the height.
 FORMS = 50, 70, 100, 140, 200, 280
@@ -95,15 +96,9 @@ class Placement:
         return project.project.positions_from if project and project.project.positions else DRAWN
 
     def _take_kept(self, spots: Mapping[int, Spot]) -> None:
-        """Take the spots that a project keeps, and those of a map. The spots of places that are not
-        there now are taken by their names: other scenarios, or undone steps, may have made them."""
+        """Take the spots that a project keeps, and those of a map."""
         kept = self._project.project.positions if self._project else {}
-        places = self._desk.network.names.places
-        for name, position in kept.items():
-            if name in places:
-                self.places.spots[places[name]] = Spot(*position)
-            else:
-                self.places.apart[name] = Spot(*position)
+        take_named(self.places, self._desk, kept)
         self.places.spots.update(spots)
 
     # Where places were moved by hand.
@@ -133,13 +128,7 @@ class Placement:
     def sync(self) -> None:
         """Let the pictures show places where they were moved to. What the project has counts, in
         which each act is one assignment."""
-        names = self._desk.network.names
-        found: dict[int | str, Spot] = {}
-        for name, spot in self.moved.items():
-            node = names.places.get(name) if isinstance(name, str) else None
-            is_given = node is not None and node not in names.made
-            found[node if node and is_given else name] = spot
-        self.places.moved = found
+        self.places.moved = moved_spots(self._desk, self.moved)
 
     def move(self, node: int, right: int, down: int, form: int) -> str:
         """Put a place somewhere else, in hundredths of a point, in the picture for a window of this

@@ -15,10 +15,10 @@ from typing import Any, cast
 from urllib.parse import parse_qsl
 
 from ...quantity import moved
+from ..pictures.layout import Spot
 from ..project.scenarios import Scenarios, project_of
 from ..steps import DeskFault, unforeseen
 from ..workspace import Desk
-from .layout import Spot
 from .responses import (
     PAGE,
     Answering,

@@ -5,18 +5,19 @@ from __future__ import annotations
 from collections.abc import Mapping
 
 from ..export import problem, table, taken
+from ..pictures.layout import NoPicture, Spot
+from ..pictures.looks import Beginning, Looks
+from ..pictures.nearby import Nearby
 from ..project.printed_report import browser, printed
 from ..project.report import report
 from ..steps import DeskFault
 from ..workspace import Desk
-from .differences import Comparisons
-from .layout import NoPicture, Spot
-from .looks import Beginning, Looks
+from .comparison_view import Comparisons
 from .overview import Overview
 from .positions import Placement
 from .responses import Json, Response, whole
 from .second_sweeps import SecondSweeps
-from .selection import ArcList, Nearby
+from .selection import ArcList
 from .views import arc_views, kept_view, second_view, words_view, worth_view
 from .worth_finder import WorthFinder
 
@@ -72,10 +73,14 @@ class Shown:
         return Response(200, "image/svg+xml", self._comparisons.file(one, two), "difference.svg")
 
     def report_file(self) -> Response:
-        return Response(200, "text/html; charset=utf-8", report(self.desk).encode(), "report.html")
+        return Response(200, "text/html; charset=utf-8", self._report().encode(), "report.html")
 
     def report_pdf(self) -> Response:
-        return Response(200, "application/pdf", printed(report(self.desk)), "report.pdf")
+        return Response(200, "application/pdf", printed(self._report()), "report.pdf")
+
+    def _report(self) -> str:
+        self.placement.sync()
+        return report(self.desk, self.placement.picture)
 
     def _near(self, near: str) -> tuple[int, ...]:
         return self.desk.network.names.place_of(whole(near, "near")) if near else ()

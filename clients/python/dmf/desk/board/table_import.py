@@ -16,9 +16,10 @@ from typing import NamedTuple, Optional
 from ...errors import OptionFault
 from ...tables.loader import PLACE_TABLES, Stages, read_subject, split_path
 from ...tables.other_kinds import is_part_of
+from ..garbage_collection import without_collection
 from ..running_networks import RunningNetworks
 from ..steps import DeskFault, unforeseen
-from ..workspace import Desk, without_collection
+from ..workspace import Desk
 from .import_options import (
     arguments,
     command_line,

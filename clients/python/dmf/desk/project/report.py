@@ -1,20 +1,22 @@
 """A page in HTML to hand on.
 
-It has of each scenario its value, its limit, its steps, a picture, and in what it differs from the
-network of the table; what is worst to lose and best to have twice; and that `dmf check` finds each
-flow greatest. `report.html` is its frame."""
+It has the value of the present scenario, its bottleneck, its picture and its demands; what is worst
+to lose and best to have twice; a table of all scenarios, and smaller pictures of the others, with
+what differs from the network of the table; and that `dmf check` finds each flow greatest.
+`report.html` is its frame."""
 
 from __future__ import annotations
 
 import os
 import subprocess
 import tempfile
-from collections.abc import Callable, Iterator
+from collections.abc import Callable, Iterable, Iterator
+from dataclasses import dataclass
 from html import escape
 from pathlib import Path
 
 from ...errors import NumberTooLarge
-from ...quantity import EXACT, magnitude
+from ...quantity import EXACT, Quantity, magnitude
 from ...session import executable
 from ...session.base import Program
 from ...text.lexical import display
@@ -22,14 +24,16 @@ from ...text.table_comments import DEMAND
 from ..answers import LARGE
 from ..demands import limited_amounts
 from ..export import problem, taken
+from ..pictures.picture import Picture
 from ..seconds import MOST_SECONDS, are_found_together, seconds_of
-from ..steps import DeskFault
+from ..steps import DeskFault, Solve, Step
 from ..workspace import Desk
 from ..worth import MOST_PAIRED, MOST_PAIRS, Loss, worst, worst_pairs, worst_places
 from .comparison import ArcDifference, compare
 from .records import ENDING, Scenario
 from .report_findings import Demand, Findings, Section, Tried, Worst, WorstLosses
-from .report_picture import HIGH, LOW, readable
+from .report_ground import Grounds, Paper, grounds_of
+from .report_picture import ReportPicture, drawn_on
 from .report_text import report_lines
 from .scenarios import BASE, Scenarios
 
@@ -37,6 +41,8 @@ from .scenarios import BASE, Scenarios
 # second one is tried, if each takes a solve; and how long a check may take, in seconds.
 MOST_ARCS, MOST_PLACES, MOST_TRIED = 10, 5, 300
 PATIENCE = 60
+# The room for the picture of the present scenario on a sheet of A4, and for that of another one.
+SHEET, HALF_SHEET = Paper(500.0, 280.0), Paper(244.0, 150.0)
 
 
 def checked(desk: Desk, program: Program = None) -> str:
@@ -75,52 +81,73 @@ def _demands(desk: Desk) -> Iterator[Demand]:
         yield Demand(desk.network.names.node(node), it.limit, it.flow)
 
 
-def _section(
-    desk: Desk,
-    name: str,
-    first: int,
-    high: float = LOW,
-    scenario: Scenario | None = None,
-    differences: tuple[ArcDifference, ...] = (),
-) -> Section:
-    """Return what is to be said of what a desk shows, whose steps begin with this one: of a
-    scenario, if it is one. Its picture is this high at most, in points."""
+@dataclass(frozen=True)
+class _Shown:
+    """What a section is about: the present scenario, or another one; the network of the table is
+    none. `first` is the number of steps before the first one that is told."""
+
+    name: str
+    is_present: bool
+    first: int = 1
+    scenario: Scenario | None = None
+    differences: tuple[ArcDifference, ...] = ()
+
+
+def _section(desk: Desk, shown: _Shown, grounds: Grounds) -> Section:
+    """Return what is to be said of what a desk shows."""
     network, name_of, cut = desk.network, desk.network.names.arc, [*desk.cut_arcs()]
     limit = zip(cut, desk.flows_on(cut))
-    picture, why = "", ""
+    picture, why, scenario = ReportPicture(), "", shown.scenario
     try:
-        picture = readable(desk, high)
+        picture = drawn_on(grounds, desk, SHEET if shown.is_present else HALF_SHEET)
     except DeskFault as fault:
         why = str(fault)
-    made = desk.steps[first : desk.at]
     return Section(
-        name,
+        shown.name,
+        shown.is_present,
         scenario.begun_from if scenario else "",
         scenario.note if scenario else "",
         desk.value,
-        tuple((step.text, step.value) for step in made),
+        tuple(_changes(desk.steps[shown.first : desk.at])),
         tuple(step.text for step in scenario.left_out) if scenario else (),
         tuple((name_of(number), magnitude(flow)) for number, flow in limit),
+        tuple(map(network.names.short, cut)),
         tuple(network.names.side(desk.side())),
         tuple(sorted(_demands(desk), key=lambda it: it.arrives - it.wanted)),
-        differences,
+        shown.differences,
         picture,
         why,
         checked(desk),
     )
 
 
-def _sections(desk: Desk) -> Iterator[Section]:
+def _changes(steps: Iterable[Step]) -> list[tuple[str, Quantity]]:
+    """Return the changes in words, each with the value after it, which a solve may have found."""
+    found: list[tuple[str, Quantity]] = []
+    for step in steps:
+        if step.changes != (Solve(),):
+            found.append((step.text, step.value))
+        elif found:
+            found[-1] = found[-1][0], step.value
+    return found
+
+
+def _sections(desk: Desk, page: Picture | None) -> Iterator[Section]:
+    """Yield what is to be said of each scenario, or of a desk that no project keeps. Places lie
+    where they are in all pictures, as in that of the page, if one shows the desk."""
+    grounds = grounds_of(desk, SHEET.wide / SHEET.high, page)
     project = Scenarios.of(desk)
     if project is None:
-        yield _section(desk, "the plan", 0, HIGH)
+        yield _section(desk, _Shown("the plan", True, 0), grounds)
         return
     with project.visiting(BASE) as shown:
-        yield _section(shown, BASE, 1)
+        yield _section(shown, _Shown(BASE, not project.project.scenarios), grounds)
     for scenario in project.project.scenarios:
         differences = compare(project, BASE, scenario.name).arcs
+        is_present = scenario.name == project.scenario.name
         with project.visiting(scenario.name) as shown:
-            yield _section(shown, scenario.name, 1, LOW, scenario, differences)
+            about = _Shown(scenario.name, is_present, 1, scenario, differences)
+            yield _section(shown, about, grounds)
 
 
 def _tried(desk: Desk) -> Tried:
@@ -185,13 +212,15 @@ def _table_arcs(desk: Desk) -> int:
     )
 
 
-def findings(desk: Desk) -> Findings:
-    """Return the content of a report. This takes as long as the steps of all scenarios, a
-    comparison of each, and a sweep. Raise a `DeskFault` if the flow is not greatest."""
+def findings(desk: Desk, page: Picture | None = None) -> Findings:
+    """Return the content of a report. `page` is the picture of the page that shows the desk, if one
+    does. This takes as long as the steps of all scenarios, a comparison of each, and a sweep. Raise
+    a `DeskFault` if the flow is not greatest."""
     network = desk.network
     if not desk.is_greatest:
         raise DeskFault(desk.network.words.limit_not_known)
     subject, names = network.subject, network.names
+    ends = ([*map(names.node, it)] for it in (network.sources, network.sinks))
     kept = Scenarios.of(desk)
     with_notes, assumed = (
         (kept.project.notes, kept.project.table.assumed) if kept else ("", subject.notes)
@@ -205,22 +234,23 @@ def findings(desk: Desk) -> Findings:
         names.terminal(network.sink),
         len(network.sources),
         len(network.sinks),
+        tuple(desk.network.words.page.tasks(*ends)),
         desk.network.words,
         _table_arcs(desk),
         len(names.places),
         tuple(assumed),
-        tuple(_sections(desk)),
+        tuple(_sections(desk, page)),
         _tried(desk),
     )
 
 
-def report(desk: Desk) -> str:
+def report(desk: Desk, page: Picture | None = None) -> str:
     """Return the report of a desk: of a project with all its scenarios, or else of the present
-    state. It carries the present problem. This takes as long as the steps of all scenarios, a
-    comparison of each, and a sweep. Raise a `DeskFault` if the flow is not greatest, and what a
-    session raises."""
-    found = findings(desk)
-    page = (Path(__file__).with_name("report.html")).read_text(encoding="utf-8")
+    state. It carries the present problem. `page` is the picture of the page that shows the desk, if
+    one does. This takes as long as the steps of all scenarios, a comparison of each, and a sweep.
+    Raise a `DeskFault` if the flow is not greatest, and what a session raises."""
+    found = findings(desk, page)
+    frame = (Path(__file__).with_name("report.html")).read_text(encoding="utf-8")
     title = f"{display(found.title)}: report"
-    page = page.replace("{title}", escape(title)).replace("{body}", "\n".join(report_lines(found)))
-    return taken(desk, page.encode()).decode()
+    text = frame.replace("{title}", escape(title)).replace("{body}", "\n".join(report_lines(found)))
+    return taken(desk, text.encode()).decode()

@@ -8,6 +8,7 @@ from typing import NamedTuple
 from ...quantity import Quantity
 from ..subject_words import Words
 from .comparison import ArcDifference
+from .report_picture import ReportPicture
 
 
 class Demand(NamedTuple):
@@ -20,20 +21,23 @@ class Demand(NamedTuple):
 
 @dataclass(frozen=True)
 class Section:
-    """A scenario in a report. `picture` is the text of an SVG, or empty if there is no picture, for
-    the reason `no_picture`; `check` is what `dmf check` wrote about the flow."""
+    """A scenario in a report; `is_present` says whether it is the one that is shown now. `picture`
+    is empty if there is none, for the reason `no_picture`; `limit_names` are
+    short, and `check` is what `dmf check` wrote about the flow."""
 
     name: str
+    is_present: bool
     begun_from: str
     note: str
     value: Quantity
     steps: tuple[tuple[str, Quantity], ...]
     left_out: tuple[str, ...]
     limit: tuple[tuple[str, Quantity], ...]
+    limit_names: tuple[str, ...]
     side: tuple[str, ...]
     demands: tuple[Demand, ...]
     differences: tuple[ArcDifference, ...]
-    picture: str
+    picture: ReportPicture
     no_picture: str
     check: str
 
@@ -77,7 +81,7 @@ class Tried:
 class Findings:
     """Everything that a report says about the network and the scenarios of a desk. The first
     section is the network of the table. `sources` and `sinks` count the places that flow comes from
-    and goes to."""
+    and goes to, and `tasks` say what the value is, the longest text first."""
 
     title: str
     notes: str
@@ -87,9 +91,15 @@ class Findings:
     sink: str
     sources: int
     sinks: int
+    tasks: tuple[str, ...]
     words: Words
     arcs: int
     places: int
     assumed: tuple[str, ...]
     sections: tuple[Section, ...]
     tried: Tried
+
+    @property
+    def present(self) -> Section:
+        """Return the section of the present scenario."""
+        return next(it for it in self.sections if it.is_present)

@@ -5,9 +5,10 @@
  * @typedef {import("./arrows.js").Arrow} Arrow
  */
 import { strokesOf } from "./arrows.js";
+import { isFar } from "./ground.js";
 import { Ink } from "./ink.js";
 import { arrange } from "./labels.js";
-import { isFar, strokesSeen } from "./painting.js";
+import { strokesSeen } from "./painting.js";
 import { covers } from "./room.js";
 import { scale, seenBox } from "./view.js";
 

@@ -2,28 +2,13 @@
  * The selection on the page: an arc or a place.
  * @typedef {import("./state.js").Choice} Choice
  */
-import { button, cell } from "./elements.js";
+import { button, cell, withArrows } from "./elements.js";
+import { now, put } from "./store.js";
 
-/** @type {Choice | null} */
-let chosen = null;
-/** @type {((chosen: Choice | null) => unknown)[]} */
-const watchers = [];
-
-export const theChoice = () => chosen;
-
-/**
- * Calls `watcher` after each new selection.
- * @param {(chosen: Choice | null) => unknown} watcher
- */
-export function watchChoice(watcher) {
-  watchers.push(watcher);
-}
+export const theChoice = () => now.choice;
 
 /** @param {Choice | null} what */
-export async function choose(what) {
-  chosen = what;
-  await Promise.all(watchers.map((watcher) => watcher(what)));
-}
+export const choose = (what) => put("choice", what);
 
 /**
  * Returns a cell with a place that a click selects.
@@ -39,7 +24,8 @@ export function pickPlace(place) {
  * @param {string} text
  */
 export function arcButton(arc, text) {
-  const made = button(text, () => choose(arc.node ? { node: arc.node } : { arc: arc.number }), "link");
+  const made = button("", () => choose(arc.node ? { node: arc.node } : { arc: arc.number }), "link");
+  made.append(...withArrows(text));
   // Another arc may have the same name.
   made.dataset.arc = String(arc.number);
   return made;

@@ -7,33 +7,23 @@
  */
 import { choose, pick } from "./choice.js";
 import { showDifference } from "./difference.js";
-import { at, cell, field, fill, make, offer, onClick, replace } from "./elements.js";
+import { at, cell, field, fill, make, offer, onClick, replace, withArrows } from "./elements.js";
 import { patiently } from "./messages.js";
 import { lower } from "./panel.js";
 import { ask, noun, units, wording } from "./state.js";
-import { listed, sentence, upper } from "./words.js";
+import { now, put } from "./store.js";
+import { grouped, listed, sentence, upper } from "./words.js";
 
 const AT_ONCE = 300;
-/** What the picture's colours mean, in words. */
-const kinds = () => new Map([["more", "more"], ["come", "only there"], ["less", "less"], ["gone", "gone"], ["else", wording().not_flow]]);
-/** @type {Comparison | null} */
-let shown = null;
+/** What the colours of the picture mean, as in its legend. */
+const KINDS = new Map([["more", "more"], ["come", "only in the second"], ["less", "less"], ["gone", "not in the second"],
+  ["else", "other capacity or bottleneck"]]);
 /** @type {Row[]} */
 let rows = [];
 let asked = 0;
-/** @type {(() => unknown)[]} */
-const watchers = [];
 
 /** The names of the two scenarios that are being compared, or null. */
-export const theComparison = () => (shown ? [shown.first.name, shown.second.name] : null);
-
-/**
- * Calls `watcher` after each comparison.
- * @param {() => unknown} watcher
- */
-export function watchComparison(watcher) {
-  watchers.push(watcher);
-}
+export const theComparison = () => now.comparison && [now.comparison.first.name, now.comparison.second.name];
 
 /**
  * Fills the two lists of scenarios. Until others are chosen, the network of the table is compared with the present scenario.
@@ -44,7 +34,7 @@ export function offerScenarios(names, state) {
   const pairs = names.map((name) => [name, name]);
   offer("compare-one", pairs, names[0]);
   offer("compare-two", pairs, state.scenario);
-  if (shown && shown.turn !== state.turn) outdated();
+  if (now.comparison && now.comparison.turn !== state.turn) outdated();
 }
 
 function outdated() {
@@ -64,10 +54,9 @@ export async function compare(one, two) {
   /** @type {Comparison | null | undefined} */
   const told = await patiently(ask(`comparison?${words}&first=0&count=${AT_ONCE}`));
   if (!told || turn !== asked) return;
-  shown = told;
   rows = told.rows;
+  put("comparison", told);
   showTable();
-  for (const watcher of watchers) watcher();
   const picture = await patiently(ask(`difference?${words}`));
   if (picture && turn === asked) draw(picture);
 }
@@ -75,9 +64,8 @@ export async function compare(one, two) {
 /** Closes the comparison. */
 export function closeComparison() {
   asked += 1;
-  shown = null;
   at("compared-shown").hidden = true;
-  for (const watcher of watchers) watcher();
+  put("comparison", null);
 }
 
 /** @param {Standing} it */
@@ -85,8 +73,14 @@ function limitOf(it) {
   return it.limit_count ? listed(it.limit, it.limit_count, "; ") : "nothing";
 }
 
+/**
+ * Returns how many parts of the network differ; besides arcs, what a place gives, takes or lets through.
+ * @param {number} count
+ */
+const counted = (count) => `${grouped(count)} ${rows.some((row) => row.node) ? "part" : noun()}${count === 1 ? "" : "s"}`;
+
 function showTable() {
-  const told = /** @type {Comparison} */ (shown), { first, second, total } = told;
+  const told = /** @type {Comparison} */ (now.comparison), { first, second, total } = told;
   at("compared-shown").hidden = false;
   at("compare-old").hidden = true;
   const words = `one=${encodeURIComponent(first.name)}&two=${encodeURIComponent(second.name)}&turn=${told.turn}`;
@@ -95,21 +89,20 @@ function showTable() {
     make("strong", second.value), `${units()}: ${told.moved}.`);
   const limits = told.same_limit ? [`The bottleneck is the same: ${limitOf(first)}.`]
     : [first, second].map((it) => `The bottleneck of ${it.name}: ${limitOf(it)}.`);
-  replace(at("compare-limits"), limits.map((text) => make("p", text)));
+  replace(at("compare-limits"), limits.map((text) => make("p", withArrows(text))));
   const some = rows.length < total ? `, of which the first ${rows.length} are listed` : "";
-  at("compare-count").textContent = total ? `${total} differ${total === 1 ? "s" : ""}${some}.` : `No ${noun()} differs.`;
+  at("compare-count").textContent = total ? `${counted(total)} differ${total === 1 ? "s" : ""}${some}.` : `No ${noun()} differs.`;
   at("compare-more").hidden = rows.length >= total;
   at("compare-scroll").hidden = !total;
   const heads = [upper(noun()), first.name, second.name, "in the picture"];
-  const means = kinds();
   fill("compare-table", `${wording().compared}${units() && ","}${units()}`, heads, rows.map((row) => [
     row.number ? pick(row, row.arc) : cell(row.arc), cell(row.first), cell(row.second),
-    make("td", means.get(row.kind) ?? "", { class: row.kind })]), true);
+    make("td", KINDS.get(row.kind) ?? "", { class: row.kind })]), true);
 }
 
 /** Lists more arcs that differ. */
 async function more() {
-  const told = shown, turn = asked;
+  const told = now.comparison, turn = asked;
   if (!told) return;
   const words = `one=${encodeURIComponent(told.first.name)}&two=${encodeURIComponent(told.second.name)}`;
   const next = await patiently(ask(`comparison?${words}&first=${rows.length}&count=${AT_ONCE}`));
@@ -132,12 +125,15 @@ export function beginComparing() {
   at("comparing").addEventListener("submit", async (event) => {
     event.preventDefault();
     await compare(field("compare-one").value, field("compare-two").value);
-    if (!shown) return;
+    if (!now.comparison) return;
     lower();
     at("compared-head").focus();
   });
   onClick("compare-more", more);
-  onClick("compare-again", () => shown && compare(shown.first.name, shown.second.name));
+  onClick("compare-again", () => {
+    const two = theComparison();
+    if (two) compare(two[0], two[1]);
+  });
   onClick("compare-close", () => {
     closeComparison();
     at("compare-one").focus();

@@ -7,8 +7,8 @@ import { at } from "./elements.js";
 import { Ink, pointsOf } from "./ink.js";
 import { arrange, labelsOf } from "./labels.js";
 
-/** The scale, in pixels per unit: letters are at least 11 pixels high, and a picture wider than the page scrolls in its frame. */
-const LEAST = 1.02, MOST = 1.33;
+/** The bounds of the scale, in pixels per unit. Between them the picture is as large as its frame; a larger one scrolls there. */
+const LEAST = 0.5, MOST = 1.33;
 /** The size of an arrow, in units. */
 const ARROW = 10;
 
@@ -24,7 +24,8 @@ export function showDifference(text, words) {
   if (!text) return;
   const made = document.importNode(new DOMParser().parseFromString(text, "image/svg+xml").documentElement, true);
   const drawn = /** @type {SVGSVGElement} */ (/** @type {unknown} */ (made)), { width, height } = drawn.viewBox.baseVal;
-  const scale = Math.min(MOST, Math.max(LEAST, (host.clientWidth - 4) / width));
+  const fitted = Math.min((host.clientWidth - 4) / width, (parseFloat(getComputedStyle(host).maxHeight) - 4) / height);
+  const scale = Math.min(MOST, Math.max(LEAST, fitted));
   drawn.setAttribute("width", String(width * scale));
   drawn.setAttribute("height", String(height * scale));
   drawn.setAttribute("role", "img");

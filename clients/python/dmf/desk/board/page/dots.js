@@ -10,6 +10,8 @@ import { at } from "./elements.js";
  * are. */
 export const END = 9;
 const LEAST = 1.6, MOST = 5, LENGTHS = 11;
+/** How far the mark of the selection reaches beyond a place, in pixels, as in the style sheet. */
+const MARK = 6;
 /** The thickness of the outline of an end, and the square of a source and the bar in it; and the radius of a pie, which is a disc if all
  * arrives. */
 const RIM = 2, SQUARE = "M-8-8H8V8H-8Z", BAR = "M-4 0H4V4H-4Z", PIE = 6.5, DISC = 5.5;
@@ -33,10 +35,10 @@ export function sizeDots(usual) {
 }
 
 /**
- * Returns the radius of a place, in pixels.
+ * Returns the radius of a place, in pixels, with the mark of the selection.
  * @param {Element} part
  */
-export const reachOf = (part) => (part.hasAttribute("data-end") ? END : plain);
+export const reachOf = (part) => (part.hasAttribute("data-end") ? END : plain) + (part.matches(".chosen") ? MARK : 0);
 
 /** @param {number} reach */
 const circle = (reach) => `M0-${reach}A${reach} ${reach} 0 1 1 0 ${reach}A${reach} ${reach} 0 1 1 0-${reach}Z`;

@@ -45,6 +45,17 @@ export function make(tag, content = [], looks = {}) {
   return made;
 }
 
+/** What stands between the names of two places. */
+const ARROW = " -> ";
+
+/**
+ * Returns a text in pieces, so that no line is broken inside an arrow between two places.
+ * @param {string} text
+ * @returns {Piece[]}
+ */
+export const withArrows = (text) => text.split(ARROW).flatMap((it, place) =>
+  (place ? [" ", make("span", ARROW.trim(), { class: "arrow" }), ` ${it}`] : [it]));
+
 /**
  * @param {string} text
  * @param {() => unknown} act
@@ -158,7 +169,7 @@ export const numberCell = (text) => make("td", text, { class: "number" });
  */
 export function fill(id, caption, heads, rows, isWords = false) {
   const table = tableAt(id);
-  const titles = heads.map((head, place) => make("th", head || make("span", "difference", { class: "unseen" }),
+  const titles = heads.map((head, place) => make("th", head || make("span", "what can be done", { class: "unseen" }),
     { scope: "col", class: place && head && !isWords ? "number" : "" }));
   table.createCaption().textContent = caption;
   table.tHead?.replaceChildren(make("tr", titles));

@@ -1,7 +1,8 @@
 /** Finds places and arcs by their names, while they are typed. */
-import { choose, watchChoice } from "./choice.js";
+import { choose } from "./choice.js";
 import { at, button, field, make } from "./elements.js";
 import { ask } from "./state.js";
+import { watch } from "./store.js";
 
 let typed = 0;
 /**
@@ -34,7 +35,7 @@ function close() {
 }
 
 export function beginFinding() {
-  watchChoice((chosen) => chosen && close());
+  watch("choice", (chosen) => chosen && close());
   at("text").addEventListener("input", () => {
     search = find();
   });

@@ -1,14 +1,17 @@
 /**
- * A large picture that is dragged or zoomed: what is drawn glides along by a transform, which takes no drawing. It is drawn again when it
- * rests, or before an edge of what is drawn would be seen.
+ * A large picture that is dragged or zoomed: what is drawn glides along by a transform, which takes no drawing, and the overview lies
+ * around it. It is drawn again when the view rests, or before a large part of the view would be drawn coarsely or not at all.
  * @typedef {import("./view.js").Box} Box
+ * @typedef {{ box: Box, scale: number }} Overview what it shows, and its pixels per unit
  */
 import { at } from "./elements.js";
 
 /** How much of a large picture is drawn beyond each edge of the window, in parts of the window. */
 export const BEYOND = 0.25;
 /** How long the view has to rest, in milliseconds; and how many times as large a drawing may be shown. */
-const STILL = 120, LARGEST = 2;
+const STILL = 120, LARGEST = 8;
+/** How far a size may be from another one that is the same but for rounding. */
+const ALIKE = 1e-6;
 /**
  * The box of a large picture; and the view for which it was drawn.
  * @type {Box | null}
@@ -16,7 +19,15 @@ const STILL = 120, LARGEST = 2;
 let whole = null;
 /** @type {Box} */
 let drawn = { x: 0, y: 0, width: 1, height: 1 };
+/**
+ * The overview, or null while there is none of what the picture shows now.
+ * @type {Overview | null}
+ */
+let overview = null;
 let resting = 0, frame = 0, isGliding = false;
+
+/** Returns true if the view is shown by what was drawn for another one. */
+export const isMoving = () => isGliding;
 
 /** Goes on waiting for the view to rest. */
 function goOn() {
@@ -27,6 +38,12 @@ function goOn() {
 /** @param {Box | null} box that of the whole picture if it is too large to be drawn for each frame, or else null */
 export function setWhole(box) {
   whole = box;
+  at("layers").classList.toggle("large", Boolean(box));
+}
+
+/** @param {Overview | null} painted */
+export function setOverview(painted) {
+  overview = painted;
 }
 
 /**
@@ -39,7 +56,7 @@ export const wider = ({ x, y, width, height }, by) =>
   ({ x: x - by * width, y: y - by * height, width: (1 + 2 * by) * width, height: (1 + 2 * by) * height });
 
 /**
- * Returns true if a view shows nothing of the picture that is not drawn.
+ * Returns true if the part of the picture in a view is drawn.
  * @param {Box} seen
  * @param {Box} all
  */
@@ -51,20 +68,50 @@ function isDrawn(seen, all) {
 }
 
 /**
+ * Returns true if the overview helps out in a view that shows more than what is drawn: the view is about as far away as the overview, or
+ * its middle is drawn.
+ * @param {Box} seen
+ * @param {boolean} isFar
+ */
+function isHelped({ x, y, width, height }, isFar) {
+  const known = wider(drawn, BEYOND), [right, down] = [x + width / 2 - known.x, y + height / 2 - known.y];
+  return overview !== null && (isFar || right > 0 && right < known.width && down > 0 && down < known.height);
+}
+
+/**
+ * Shows a layer where it lies in a view. At its own size it is moved by whole pixels, which are copied, and not computed from those beside.
+ * @param {string} id
+ * @param {Box} box the part of the picture that begins at the corner of the layer
+ * @param {Box} seen
+ * @param {number} scale the view's pixels per unit
+ * @param {number} by how many times as large as it was drawn
+ */
+function put(id, box, seen, scale, by) {
+  const isSame = Math.abs(by - 1) < ALIKE;
+  const [right, down] = [box.x - seen.x, box.y - seen.y].map((far) => (isSame ? Math.round(far * scale) : far * scale));
+  at(id).style.setProperty("transform", `translate(${right}px, ${down}px)${isSame ? "" : ` scale(${by})`}`);
+}
+
+/**
  * Shows a view by what is drawn, until it rests. Returns false if it has to be drawn.
  * @param {Box} seen
  * @param {number} scale pixels per unit
  * @param {() => unknown} draw draws the view
  */
 export function glide(seen, scale, draw) {
-  const by = drawn.width / seen.width;
-  if (!whole || by > LARGEST || !isDrawn(seen, whole)) return false;
+  const by = drawn.width / seen.width, isCovered = whole !== null && isDrawn(seen, whole);
+  // Nearer in size to the overview than to what is drawn.
+  const isFar = !isCovered && overview !== null && scale * by < overview.scale;
+  if (!whole || by > LARGEST || !isCovered && !isHelped(seen, isFar)) return false;
   goOn();
   // Where frames take longer than that, the next move may already wait for the next frame.
   resting = setTimeout(() => { frame = requestAnimationFrame(draw); }, STILL);
   isGliding = true;
   at("layers").classList.add("gliding");
-  at("layers").style.transform = `translate(${(drawn.x - seen.x) * scale}px, ${(drawn.y - seen.y) * scale}px) scale(${by})`;
+  at("layers").classList.toggle("far", isFar);
+  put("layers", drawn, seen, scale, by);
+  if (at("overview").hidden !== isCovered) at("overview").hidden = isCovered;
+  if (overview && !isCovered) put("overview", overview.box, seen, scale, scale / overview.scale);
   return true;
 }
 
@@ -74,6 +121,7 @@ export function rest(seen) {
   drawn = seen;
   if (!isGliding) return;
   isGliding = false;
-  at("layers").classList.remove("gliding");
+  at("overview").hidden = true;
+  at("layers").classList.remove("gliding", "far");
   at("layers").style.transform = "";
 }

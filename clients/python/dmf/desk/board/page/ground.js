@@ -120,10 +120,11 @@ function linesOf(arcs) {
 /**
  * Returns where a line begins and ends, beside those with the same ends.
  * @param {Line} line
+ * @param {number} pixels per unit of the picture
  * @returns {[number, number][]}
  */
-export function endsOf({ from, to, aside }) {
-  const by = APART * thicker(ground.usual * scale()) / scale();
+export function endsOf({ from, to, aside }, pixels = scale()) {
+  const by = APART * thicker(ground.usual * pixels) / pixels;
   return [from, to].map(([x, y]) => [x + by * aside[0], y + by * aside[1]]);
 }
 
@@ -228,8 +229,11 @@ export function nextPlace(node, [right, down]) {
   return best;
 }
 
-/** Returns true if all is drawn, and the view is too wide for names to be read. */
-export const isFar = () => isGround() && scale() < NAMES;
+/**
+ * Returns true if all is drawn, and too small for names to be read.
+ * @param {number} pixels per unit of the picture
+ */
+export const isFar = (pixels = scale()) => isGround() && pixels < NAMES;
 
 /** Returns the place in the middle of the view, if names can be read there and the picture lacks some places around it. */
 export function middlePlace() {

@@ -36,8 +36,7 @@ function headline(view) {
   }
   const count = faults.length + view.more_faults;
   if (!count) return ["Nothing can be said yet."];
-  const first = sentence(placed(faults[0], view));
-  return [count === 1 ? first : `${grouped(count)} things cannot be read. The first: ${first}`];
+  return [count === 1 ? sentence(placed(faults[0], view)) : `${grouped(count)} things cannot be read.`];
 }
 
 /**

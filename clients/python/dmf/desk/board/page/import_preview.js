@@ -5,7 +5,7 @@
  * @typedef {import("./import_state.js").Options} Options
  */
 import { at, make, replace, replaceAlike } from "./elements.js";
-import { idOf, showFaults } from "./import_faults.js";
+import { saidBy, showFaults } from "./import_faults.js";
 import { fillMenu } from "./import_menus.js";
 import { change, present, theOptions } from "./import_state.js";
 import { news } from "./messages.js";
@@ -20,6 +20,8 @@ const SURE = new Map([["named", "by its title"], ["only", "the only one possible
  * @type {Map<number, HTMLTableCellElement>}
  */
 const heads = new Map();
+/** The fault whose cell was scrolled to last. */
+let revealed = "";
 const corner = make("th", make("span", "Line", { class: "unseen" }), { scope: "col" }), row = make("tr", corner, { class: "roles" });
 
 /** @param {View} view */
@@ -36,6 +38,19 @@ export function showPreview(view) {
   replace(row, [corner, ...widths(view).map((place) => head(place, view))]);
   replaceAlike(table.tBodies[0], (preview?.rows ?? []).map((_, index) => rowOf(index, view)));
   showFaults(view);
+  reveal(view);
+}
+
+/**
+ * Scrolls to the first cell that cannot be read, unless it is the same as before.
+ * @param {View} view
+ */
+function reveal({ faults }) {
+  const [cell] = at("preview-table").querySelectorAll("td.fault"), first = cell ? JSON.stringify(faults[0]) : "";
+  if (cell instanceof HTMLElement && first !== revealed) {
+    at("preview-scroll").scrollLeft = cell.offsetLeft + cell.offsetWidth - at("preview-scroll").clientWidth;
+  }
+  revealed = first;
 }
 
 /**
@@ -126,7 +141,7 @@ function rowOf(index, view) {
  * @param {View} view
  * @returns {Record<string, string>}
  */
-function marks(line, column, { faults }) {
-  const index = faults.findIndex((fault) => fault.line === line && (fault.column ?? 0) === column);
-  return index < 0 ? {} : { class: column ? "fault" : "number fault", "aria-describedby": idOf(index), title: faults[index].text };
+function marks(line, column, view) {
+  const { faults } = view, index = faults.findIndex((fault) => fault.line === line && (fault.column ?? 0) === column);
+  return index < 0 ? {} : { class: column ? "fault" : "number fault", "aria-describedby": saidBy(index, view), title: faults[index].text };
 }

@@ -28,7 +28,7 @@ const NEEDED = 0;
 /** The spots of a place's label, around the place, and between these if it is further out; and of an arc's, from where Graphviz put it, in
  * parts of its size. */
 export const AROUND = [[1, 0], [-1, 0], [0, -1], [0, 1], [1, -1], [1, 1], [-1, -1], [-1, 1]];
-const BETWEEN = [[0.5, -1], [-0.5, -1], [0.5, 1], [-0.5, 1]];
+const BETWEEN = [[0.5, -1], [-0.5, -1], [0.5, 1], [-0.5, 1], [1, -0.5], [1, 0.5], [-1, -0.5], [-1, 0.5]];
 const BESIDE = [[0, 0], [0, -0.3], [0, 0.3], [0.3, 0], [-0.3, 0], [0, -0.6], [0, 0.6], [0.3, -0.3], [-0.3, 0.3]];
 /** Which points of an arc's line its label may lie beside, the best first; and how far the arrow reaches from the line, in pixels. */
 const ALONG = [6, 4, 8, 2, 10], ARROW = 6.5;
@@ -143,7 +143,7 @@ export function arrange(labels, scale, ground) {
     return [label, box];
   }));
   const first = (/** @type {Label} */ label) => (label.part.matches(".chosen") ? -1 : label.rank);
-  for (const label of [...labels].sort((one, other) => first(one) - first(other))) {
+  const place = (/** @type {Label} */ label, mayLead = true) => {
     const by = Math.min(MOST, Math.max(LEAST, label.size * scale)) / (label.size * scale);
     const [right, down] = [label.width * scale * by / 2, label.height * scale * by / 2], own = ovals.get(label) ?? null;
     const isChosen = first(label) < 0, isEnd = isDotOfEnd(label);
@@ -151,8 +151,9 @@ export function arrange(labels, scale, ground) {
     const half = (ground.thicker * Number(label.part.style.getPropertyValue("--thick")) + (isChosen ? HALO : 0)) / 2;
     const near = spots(label, right, down, scale, half), far = further(label, right, down, scale, rings);
     const arc = label.oval ? undefined : label.part, isNeeded = first(label) <= NEEDED;
-    const spot = own && isEnd ? endSpot(own, near, far, [right, down], now)
+    const spot = own && isEnd ? endSpot(own, near, far, [right, down], now, mayLead)
       : freeSpot([...near, ...far], [right, down], now, { own, arc, isNeeded });
+    if (spot === null) return false;
     const box = spot && edges(spot[0], spot[1], right, down);
     for (const it of box ? [box, ...own && isEnd ? leaderBoxes(own, box) : []] : []) {
       taken.add(it);
@@ -160,7 +161,14 @@ export function arrange(labels, scale, ground) {
     }
     put(label, by, spot && { x: spot[0] / scale, y: spot[1] / scale, isIn: spot[2] });
     if (label.oval?.isDot) lead(label.part, box && sight(box, ground) === "seen" ? box : null, scale);
-  }
+    return true;
+  };
+  const sorted = [...labels].sort((one, other) => first(one) - first(other));
+  const chosen = sorted.filter((label) => first(label) < 0), others = sorted.slice(chosen.length);
+  for (const label of chosen) place(label);
+  // A name to which a line leads takes the room of none that lies beside its place.
+  const led = others.filter(isDotOfEnd).filter((label) => !place(label, false));
+  for (const label of [...led, ...others.filter((it) => !isDotOfEnd(it))]) place(label);
 }
 
 /**

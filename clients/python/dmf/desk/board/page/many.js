@@ -6,25 +6,14 @@
 import { at, button, form, make, replace } from "./elements.js";
 import { trouble } from "./messages.js";
 import { act, ask, units, wording } from "./state.js";
+import { now, put } from "./store.js";
 
 /** How many arcs can be selected at once, as in the board. */
 const MOST = 100_000;
-/** @type {Set<number>} */
-let picked = new Set();
 let asked = 0;
-/** @type {(() => unknown)[]} */
-const watchers = [];
 
-export const isPicked = (/** @type {number} */ number) => picked.has(number);
-export const pickedCount = () => picked.size;
-
-/**
- * Calls `watcher` after each change of this selection.
- * @param {() => unknown} watcher
- */
-export function watchPicked(watcher) {
-  watchers.push(watcher);
-}
+export const isPicked = (/** @type {number} */ number) => now.picked.has(number);
+export const pickedCount = () => now.picked.size;
 
 /**
  * Selects these arcs and no others, unless they are too many.
@@ -36,7 +25,7 @@ export function pickThese(numbers) {
     trouble(`At most ${MOST} can be chosen at once. A filter shows fewer.`);
     return undefined;
   }
-  picked = wanted;
+  put("picked", wanted);
   return showMany();
 }
 
@@ -44,7 +33,7 @@ export function pickThese(numbers) {
  * Adds these arcs to the selection.
  * @param {Iterable<number>} numbers
  */
-export const pickMore = (numbers) => pickThese([...picked, ...numbers]);
+export const pickMore = (numbers) => pickThese([...now.picked, ...numbers]);
 
 /** Clears the selection, and goes back to the table. */
 export function pickNone() {
@@ -53,24 +42,22 @@ export function pickNone() {
 }
 
 /** @param {number} number */
-export const toggle = (number) => pickThese(picked.has(number) ? [...picked].filter((it) => it !== number) : [...picked, number]);
+export const toggle = (number) => pickThese(
+  isPicked(number) ? [...now.picked].filter((it) => it !== number) : [...now.picked, number]);
 
 /** Shows which of the selected arcs are open and closed, and what can be done to them. */
 async function showMany() {
   const turn = (asked += 1);
-  for (const watcher of watchers) watcher();
-  if (!picked.size) {
+  if (!now.picked.size) {
     at("many").replaceChildren();
     return;
   }
   /** @type {Many | null | undefined} */
-  const told = await ask("many", { arcs: [...picked] });
+  const told = await ask("many", { arcs: [...now.picked] });
   if (!told || turn !== asked) return;
-  const now = new Set([...told.open, ...told.closed]);
-  const isSame = now.size === picked.size && [...now].every((number) => picked.has(number));
-  picked = now;
-  if (!isSame) for (const watcher of watchers) watcher();
-  replace(at("many"), now.size ? about(told) : []);
+  const there = new Set([...told.open, ...told.closed]);
+  if (there.size !== now.picked.size || ![...there].every(isPicked)) put("picked", there);
+  replace(at("many"), there.size ? about(told) : []);
 }
 
 /** @param {Many} told */
@@ -100,7 +87,7 @@ function about(told) {
  * @param {State | null} before
  */
 export function followMany(state, before) {
-  if (!before || state.turn === before.turn || !picked.size) return undefined;
+  if (!before || state.turn === before.turn || !now.picked.size) return undefined;
   const isNext = state.turn === before.turn + 1;
-  return pickThese([...picked].filter((number) => isNext || number <= state.given));
+  return pickThese([...now.picked].filter((number) => isNext || number <= state.given));
 }

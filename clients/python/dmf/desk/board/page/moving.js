@@ -1,19 +1,20 @@
 /**
  * Places of a drawn picture that are moved by hand, with the pointer or by keys. Their lines follow, and the board keeps where they lie.
- * @typedef {import("./view.js").Held} Held
+ * @typedef {import("./gestures.js").Held} Held
  * @typedef {{ node: number, name: string, x: number, y: number, to: (x: number, y: number) => void }} Carried a place that is being moved,
  *   where it was, and a function that shows it elsewhere
  */
 import { theChoice } from "./choice.js";
 import { partOf, parts } from "./drawing.js";
 import { at, onClick } from "./elements.js";
-import { moveOnGround } from "./ground.js";
+import { dropHeld, setGrab } from "./gestures.js";
+import { isFar, moveOnGround } from "./ground.js";
 import { news } from "./messages.js";
-import { isFar, paint } from "./painting.js";
+import { paint } from "./painting.js";
 import { showPicture } from "./picture.js";
 import { ask, watchPicture } from "./state.js";
 import { now, watch } from "./store.js";
-import { dropHeld, reveal, scale, setGrab } from "./view.js";
+import { reveal, scale } from "./view.js";
 import { sentence } from "./words.js";
 
 /** How far a key moves a place, and with Shift, in pixels; and how long keys rest before the board is told, in milliseconds. */

@@ -19,11 +19,12 @@ import { labelsOf } from "./labels.js";
 import { markAt, setMarks, shades } from "./legend.js";
 import { isPicked, pickedCount } from "./many.js";
 import { news } from "./messages.js";
+import { renewOverview } from "./overview.js";
 import { paint } from "./painting.js";
 import { formOf, freePart } from "./room.js";
 import { ask, present, wording } from "./state.js";
 import { now as shown, put } from "./store.js";
-import { beginView, fit, isFitted, scale, see, seenBox, zoom } from "./view.js";
+import { beginView, fit, isFitted, scale, see, seenBox, settle, zoom } from "./view.js";
 import { grouped } from "./words.js";
 
 /** The factor by which a button or a key enlarges it. */
@@ -159,6 +160,7 @@ export function mark() {
     part.classList.toggle("dashed", Boolean(shade.isDashed));
     part.classList.toggle("faded", isFaded(it));
   }
+  renewOverview();
   label();
 }
 
@@ -216,8 +218,8 @@ export function choosePart(part) {
  * @param {MouseEvent} event
  */
 function meant(event) {
-  const text = document.elementsFromPoint(event.clientX, event.clientY).find((it) => it.matches("#picture text"));
-  return text ?? (event.target instanceof Element ? event.target : null);
+  const wasMoving = settle(), there = document.elementsFromPoint(event.clientX, event.clientY);
+  return there.find((it) => it.matches("#picture text")) ?? (wasMoving || !(event.target instanceof Element) ? there[0] : event.target);
 }
 
 export function beginPicture() {

@@ -9,6 +9,7 @@ export const HEIGHT = 32;
 export const COLUMNS = [
   ["name", ""], ["from", "From"], ["to", "To"], ["flow", ""], ["capacity", ""], ["use", "use"], ["lost", "if lost"],
   ["change", "change"]];
+export const NUMBERS = ["flow", "capacity", "use", "lost"];
 
 /**
  * @param {string} column

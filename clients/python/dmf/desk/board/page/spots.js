@@ -14,7 +14,7 @@ import { edges, isApart, isWithin, larger } from "./boxes.js";
 /** How many pixels away from its best spot cost as much as a pixel of a line under the label. */
 const AWAY = 4;
 /** The distance within which a name is read as that of another place, in pixels. */
-const MISREAD = 4.5;
+export const MISREAD = 4.5;
 
 /**
  * Returns whether a box is wholly visible, not visible, or cut by an edge or a card.

@@ -16,7 +16,7 @@
  *   idle: string, amount: string, legend: string, enters: string, leaves: string, rest: string, shut: string, again: string,
  *   shutting: string, is_shut: string, is_open: string, through: string, added: string, each: string, flowing: string, flows: string,
  *   fits: string, forms: string, severed: string, crosses: string, crosses_one: string, whole: string, line: string, compared: string,
- *   more_flows: string, less_flows: string, not_flow: string, demand_titles: string[], shades: Record<string, string> }} Words
+ *   more_flows: string, less_flows: string, demand_titles: string[], shades: Record<string, string> }} Words
  *   the words for this network: of pipes and places, or of a roster's people and shifts
  * @typedef {{ turn: number, title: string, unit: string, words: Words, notes: string[], source: string, sink: string, value: string,
  *   arcs: number, given: number, places: number, kept_in: string, scenario: string, why_not: string, floor: number,

@@ -8,12 +8,16 @@
  *   `version` is another one after a place was moved, and `layout` if all lie elsewhere; the picture is that near a place, in a window of
  *   this `form`; `origin` says where positions come from, if that is known, `fixed` why no place can be moved, if so, and `moved` how
  *   many were; with `canDrawAll` the picture is a part, and all can be laid out
- * @typedef {{ seconds: Seconds | null, drawing: Drawing }} Store
- *   `seconds`: what a second one beside each arc of the bottleneck brings, once that is asked for; `drawing`: what is known of the picture
+ * @typedef {import("./state.js").Choice} Choice
+ * @typedef {import("./compare.js").Comparison} Comparison
+ * @typedef {{ choice: Choice | null, picked: Set<number>, comparison: Comparison | null, seconds: Seconds | null, drawing: Drawing }} Store
+ *   `choice`: the arc or the place that is selected; `picked`: the arcs that are selected in the table; `comparison`: that of two
+ *   scenarios which is shown; `seconds`: what a second one beside each arc of the bottleneck brings, once that is asked for; `drawing`:
+ *   what is known of the picture
  */
 
 /** @type {Store} */
-const held = { seconds: null,
+const held = { choice: null, picked: new Set(), comparison: null, seconds: null,
   drawing: { version: 0, layout: 0, near: "", form: 0, origin: "", fixed: "not drawn yet", canLayOut: false,
     canDrawAll: false, moved: 0 } };
 /** @type {Map<string, ((value: any, before: any) => unknown)[]>} */

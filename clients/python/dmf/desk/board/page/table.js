@@ -6,10 +6,11 @@
 import { choose, theChoice } from "./choice.js";
 import { at, make, onClick, replace } from "./elements.js";
 import { filterWords, typeFilter } from "./filter.js";
-import { isPicked, pickMore, pickThese, toggle, watchPicked } from "./many.js";
+import { isPicked, pickMore, pickThese, toggle } from "./many.js";
 import { trouble } from "./messages.js";
-import { COLUMNS, fill, HEIGHT, row, spacer, title } from "./rows.js";
+import { COLUMNS, fill, HEIGHT, NUMBERS, row, spacer, title } from "./rows.js";
 import { ask, caption, noun, units, wording } from "./state.js";
+import { watch } from "./store.js";
 import { sentence, upper } from "./words.js";
 
 /** The rows in one request; and the rows by which Page Up and Page Down move. */
@@ -24,6 +25,15 @@ let shown = new Map();
 let order = "", asked = 0, current = 0, anchor = 0, isAsking = false, isLate = false;
 /** The length of the longest amount so far, which sets the width of the columns. */
 let signs = 0;
+
+/**
+ * Returns the order after a click on a column's title: of numbers the largest come first.
+ * @param {string} column
+ */
+function nextOrder(column) {
+  const orders = [...NUMBERS.includes(column) ? [`-${column}`, column] : [column, `-${column}`], ""];
+  return orders[(orders.indexOf(order) + 1) % orders.length];
+}
 
 const words = () => `filter=${encodeURIComponent(filterWords())}&sort=${order}`;
 /** The filter whose rows are shown. */
@@ -77,7 +87,7 @@ function draw() {
   const heads = COLUMNS.map(([column, told]) => {
     const sort = make("button", own[column] ?? told, { type: "button", class: "link" });
     sort.addEventListener("click", () => {
-      order = order === column ? `-${column}` : order === `-${column}` ? "" : column;
+      order = nextOrder(column);
       at("rows").scrollTop = 0;
       showTable();
     });
@@ -201,7 +211,7 @@ export function beginTable() {
     showFiltered();
     typeFilter();
   });
-  watchPicked(point);
+  watch("picked", point);
 }
 
 /** If the filter has changed, shows its rows from the first on. */

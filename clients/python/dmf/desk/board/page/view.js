@@ -1,29 +1,17 @@
 /**
- * The view, which is the visible part of the picture: it can be dragged, scaled about a point, and fitted to a box.
+ * The view, which is the visible part of the picture: it can be moved, scaled about a point, and fitted to a box.
  * @typedef {{ x: number, y: number, width: number, height: number }} Box
- * @typedef {{ move: (right: number, down: number) => unknown, put: () => unknown, drop: () => unknown }} Held something that is dragged
- *   instead of the view, in pixels from where it was
  */
 import { at } from "./elements.js";
-import { glide, rest } from "./gliding.js";
+import { glide, isMoving, rest } from "./gliding.js";
 import { freePart } from "./room.js";
 
-/** The largest scale, in pixels per unit of the picture, and the largest one for a fit; the smallest; and, in pixels, the least length of a
- * drag, the room for labels at each side, the least height of a free part that somebody looks at, and the least move that somebody sees. */
-const MOST = 6, MOST_FITTED = 1.8, LEAST = 0.004, DRAG = 4, ASIDE = 60, LEAST_FREE = 80, SEEN = 0.5;
+/** The largest scale, in pixels per unit of the picture, and the largest one for a fit; the smallest; and, in pixels, the room for labels
+ * at each side, the least height of a free part that somebody looks at, and the least move that somebody sees. */
+const MOST = 6, MOST_FITTED = 1.8, LEAST = 0.004, ASIDE = 60, LEAST_FREE = 80, SEEN = 0.5;
 /** @type {Box} */
 let seen = { x: 0, y: 0, width: 1, height: 1 };
-/** @type {Map<number, { x: number, y: number }>} */
-const pointers = new Map();
-let isBegun = false, isDragged = false, wide = 1, high = 1;
-/**
- * What is dragged instead of the view, and where it was grabbed.
- * @type {Held | null}
- */
-let held = null;
-let grabbed = { x: 0, y: 0 };
-/** @type {(event: PointerEvent) => Held | null} */
-let grab = () => null;
+let isBegun = false, wide = 1, high = 1;
 /**
  * The box to which the view was fitted last, if it was not moved since.
  * @type {Box | null}
@@ -53,25 +41,40 @@ export const seenBox = () => seen;
  * @param {boolean} isGesture whether it is one of many moves, between which a large picture need not be drawn
  */
 function show(x, y, pixels, isGesture = false) {
-  const by = Math.min(MOST, Math.max(LEAST, pixels)), { clientWidth, clientHeight } = at("picture");
-  [isBegun, wide, high] = [true, clientWidth, clientHeight];
-  seen = { width: clientWidth / by, height: clientHeight / by, x: x - clientWidth / by / 2, y: y - clientHeight / by / 2 };
-  if (isRoomy(freePart())) focus = middleOf(freeBox());
+  const by = bounded(pixels);
+  // To measure anything lays the page out, which a gesture has no time for.
+  if (!isGesture) ({ clientWidth: wide, clientHeight: high } = at("picture"));
+  isBegun = true;
+  seen = { width: wide / by, height: high / by, x: x - wide / by / 2, y: y - high / by / 2 };
   if (isGesture && glide(seen, by, see)) told(true);
   else see();
 }
 
+/** @param {number} pixels per unit */
+const bounded = (pixels) => Math.min(MOST, Math.max(LEAST, pixels));
+
 /** Draws the picture in the view. */
 export function see() {
   rest(seen);
+  if (isRoomy(freePart())) focus = middleOf(freeBox());
   const svg = at("picture").querySelector("svg"), box = [seen.x, seen.y, seen.width, seen.height].join(" ");
   if (svg?.getAttribute("viewBox") !== box) svg?.setAttribute("viewBox", box);
   told();
 }
 
+/** Draws the view at once, if it is moving. Returns whether it was. */
+export function settle() {
+  const was = isMoving();
+  if (was) see();
+  return was;
+}
+
 /** @param {Box} box */
 const middleOf = ({ x, y, width, height }) => ({ x: x + width / 2, y: y + height / 2 });
 const middle = () => middleOf(seen);
+
+/** @param {import("./room.js").Room} room */
+const middleOfRoom = ({ left, top, right, bottom }) => ({ x: (left + right) / 2, y: (top + bottom) / 2 });
 
 /**
  * Returns true if a free part is large enough to show something in it.
@@ -95,16 +98,15 @@ function refresh() {
 }
 
 /**
- * Scales the picture by a factor about a point of the window, or the middle of its free part.
+ * Scales the picture, which fills the window, by a factor about a point of it, or about the middle of its free part.
  * @param {number} by
  * @param {{ x: number, y: number }} [point]
  * @param {boolean} isGesture
  */
 export function zoom(by, point, isGesture = false) {
   fitted = null;
-  const box = at("picture").getBoundingClientRect(), pixels = Math.min(MOST, Math.max(LEAST, scale() * by));
-  const free = freePart(), about = point ?? { x: box.x + (free.left + free.right) / 2, y: box.y + (free.top + free.bottom) / 2 };
-  const [right, down] = [about.x - box.x - box.width / 2, about.y - box.y - box.height / 2];
+  const pixels = bounded(scale() * by), { x, y } = point ?? middleOfRoom(freePart());
+  const [right, down] = [x - wide / 2, y - high / 2];
   show(middle().x + right / scale() - right / pixels, middle().y + down / scale() - down / pixels, pixels, isGesture);
 }
 
@@ -136,7 +138,7 @@ export function freeBox({ left, top, right, bottom } = freePart()) {
  * @param {number} pixels
  */
 function showFree(x, y, pixels) {
-  const { left, top, right, bottom } = freePart(), by = Math.min(MOST, Math.max(LEAST, pixels));
+  const { left, top, right, bottom } = freePart(), by = bounded(pixels);
   const { clientWidth, clientHeight } = at("picture");
   show(x + (clientWidth - left - right) / 2 / by, y + (clientHeight - top - bottom) / 2 / by, by);
 }
@@ -146,6 +148,7 @@ function showFree(x, y, pixels) {
  * @param {() => unknown} change
  */
 export function keepFree(change) {
+  settle();
   const before = freePart();
   change();
   const now = freePart();
@@ -177,52 +180,6 @@ export function reveal({ x, y, width, height }) {
   if (Math.hypot(right, down) > SEEN) move(-right, -down);
 }
 
-/** @param {(event: PointerEvent) => Held | null} found returns what a drag that begins there moves, or null if that is the view */
-export function setGrab(found) {
-  grab = found;
-}
-
-/** Puts what is dragged back where it was. Returns false if nothing is dragged. */
-export function dropHeld() {
-  const dropped = held;
-  held = null;
-  if (isDragged) dropped?.drop();
-  return Boolean(dropped) && isDragged;
-}
-
-/** @param {PointerEvent} event */
-function pressed(event) {
-  if (!pointers.size) isDragged = false;
-  if (event.button !== 0) return;
-  // Two fingers scale the view.
-  dropHeld();
-  held = pointers.size ? null : grab(event);
-  grabbed = { x: event.x, y: event.y };
-  pointers.set(event.pointerId, grabbed);
-}
-
-/** @param {PointerEvent} event */
-function released(event) {
-  pointers.delete(event.pointerId);
-  const put = held;
-  held = null;
-  if (isDragged) put?.put();
-}
-
-/** @param {PointerEvent} event */
-function dragged(event) {
-  const before = pointers.get(event.pointerId);
-  if (!before || !isDragged && Math.hypot(event.x - before.x, event.y - before.y) < DRAG) return;
-  isDragged = true;
-  if (!at("picture").hasPointerCapture(event.pointerId)) at("picture").setPointerCapture(event.pointerId);
-  const other = [...pointers].find(([id]) => id !== event.pointerId)?.[1];
-  const apart = (/** @type {{ x: number, y: number }} */ one) => other ? Math.max(1, Math.hypot(one.x - other.x, one.y - other.y)) : 1;
-  if (other) zoom(apart(event) / apart(before), other, true);
-  else if (held) held.move(event.x - grabbed.x, event.y - grabbed.y);
-  else move(before.x - event.x, before.y - event.y, true);
-  pointers.set(event.pointerId, { x: event.x, y: event.y });
-}
-
 /**
  * @param {(isGliding?: boolean) => unknown} tell is called after each change of the view, and told whether what is drawn only glides
  * @param {() => unknown} reshape is called after the window has another form, if all was fitted to it
@@ -230,18 +187,5 @@ function dragged(event) {
 export function beginView(tell, reshape) {
   told = tell;
   reshaped = reshape;
-  const host = at("picture");
-  host.addEventListener("pointerdown", pressed);
-  host.addEventListener("pointermove", dragged);
-  addEventListener("pointerup", released);
-  addEventListener("pointercancel", (event) => {
-    dropHeld();
-    pointers.delete(event.pointerId);
-  });
-  host.addEventListener("click", (event) => isDragged && event.stopImmediatePropagation(), true);
-  host.addEventListener("wheel", (event) => {
-    event.preventDefault();
-    zoom(Math.exp(-event.deltaY * (event.deltaMode ? 0.05 : 0.002)), event, true);
-  }, { passive: false });
-  new ResizeObserver(refresh).observe(host);
+  new ResizeObserver(refresh).observe(at("picture"));
 }

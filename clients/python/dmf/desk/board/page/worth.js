@@ -1,14 +1,14 @@
 /**
- * What is left without each arc, each place and each of the worst pairs of arcs, and beside which arcs a second one helps most. The board
- * computes that in the background for each new state, and the page asks until it is known.
+ * What is left without each arc, each place and each of the worst pairs of arcs. The board computes that, and beside which arcs a second
+ * one helps most, in the background for each new state, and the page asks until it is known.
  * @typedef {import("./state.js").Arc} Arc
  * @typedef {{ node: number, name: string, without: string, lost: string }} LostPlace
  * @typedef {{ worst: LostPlace[], more: number }} LostPlaces
  * @typedef {{ arcs: Arc[], without: string, lost: string }} LostPair
- * @typedef {{ best: (Arc & { doubled: string, gain: string })[], more: number }} BestSeconds
- * @typedef {{ is_finding: boolean, is_known: boolean, worst: Arc[], more: number, places: LostPlaces, seconds: BestSeconds | null,
- *   pairs: LostPair[] | null, losses: Record<string, string> }} Worth
+ * @typedef {{ is_finding: boolean, is_known: boolean, worst: Arc[], more: number, places: LostPlaces,
+ *   seconds: import("./best.js").BestSeconds | null, pairs: LostPair[] | null, losses: Record<string, string> }} Worth
  */
+import { markBestOld, showBest } from "./best.js";
 import { arcButton, pick, pickPlace } from "./choice.js";
 import { at, cell, fill, numberCell } from "./elements.js";
 import { colourByLoss } from "./legend.js";
@@ -17,6 +17,8 @@ import { grouped, upper } from "./words.js";
 
 /** The first and the longest pause before the board is asked again, in milliseconds. */
 const SOON = 20, LATE = 2000;
+/** What is said of numbers that a change has made old. */
+const OLD = "These are from before the change. The new ones are being found ..";
 let asked = 0;
 /** @type {(() => unknown)[]} */
 const watchers = [];
@@ -38,12 +40,11 @@ export function findWorth() {
 
 /** @param {boolean} isOld */
 function markOld(isOld) {
-  for (const part of ["best", "worst"]) at(part).classList.toggle("old", isOld);
+  at("worst").classList.toggle("old", isOld);
   if (!isOld) return;
+  markBestOld(OLD);
   at("worst").setAttribute("aria-busy", "true");
-  for (const part of ["best", "worst"]) {
-    at(`${part}-note`).textContent = "These are from before the change. The new ones are being found ..";
-  }
+  at("worst-note").textContent = OLD;
   at("worst-places-note").textContent = "";
   at("worst-pairs-note").textContent = "";
 }
@@ -75,29 +76,6 @@ function show(told) {
   showTable("worst-places", wording().place, wording().without, more, worst.map((place) => ({ ...place, cell: pickPlace(place) })));
   colourByLoss(new Map(Object.entries(told.losses).map(([number, loss]) => [Number(number), Number(loss)])));
   for (const watcher of watchers) watcher();
-}
-
-/**
- * Shows the arcs beside which a second one helps most.
- * @param {Worth} told
- */
-function showBest({ is_finding: isFinding, is_known: isKnown, seconds }) {
-  const isOld = isFinding && !seconds;
-  at("best").classList.toggle("old", isOld);
-  if (isOld) return;
-  at("best").hidden = !isKnown;
-  at("best-table").hidden = !seconds?.best.length;
-  at("best-note").textContent = bestNote(seconds);
-  fill("best-table", caption(), [upper(noun()), "then", "gained"],
-    (seconds?.best ?? []).map((arc) => [pick(arc), numberCell(arc.doubled), numberCell(arc.gain)]));
-}
-
-/** @param {BestSeconds | null} seconds */
-function bestNote(seconds) {
-  if (!seconds) return `This page does not find where a second one helps most; “what-if each ${noun()} of the cut” in dmf plan does.`;
-  if (!seconds.best.length) return "A second one of any of them alone brings nothing.";
-  const rest = seconds.more ? ` ${grouped(seconds.more)} more bring something.` : "";
-  return `Instead of ${present().value}${units()}, ${wording().twice}.${rest}`;
 }
 
 /**
@@ -148,7 +126,8 @@ function showTable(id, what, lost, more, rows) {
 }
 
 /**
- * Returns the value now and without an arc or a place, or an empty text while that is not known.
- * @param {{ without: string }} lost
+ * Returns the value now and without an arc or a place, and what is lost, or an empty text while that is not known.
+ * @param {{ without: string, lost: string }} found
  */
-export const leftWithout = ({ without }) => without && `${present().value} → ${without}`;
+export const leftWithout = ({ without, lost }) =>
+  without && `${present().value} → ${without}: ${lost === "0" ? "no change" : `${lost} less`}`;

@@ -1,5 +1,4 @@
-"""Two scenarios beside each other: what differs, and a picture in which each arc is coloured by
-what is other in the second one."""
+"""The picture of two scenarios, in which each arc is coloured by how the second one differs."""
 
 from __future__ import annotations
 
@@ -14,6 +13,11 @@ from ...quantity import EXACT, Quantity, moved, plain_text
 from ...text.lexical import display
 from ...text.table_comments import AT_PLACE
 from ..export import MOST_DRAWN
+from ..pictures.arrows import SVG, turn_arrow
+from ..pictures.layout import Places
+from ..pictures.picture import Picture
+from ..pictures.shapes import DrawnArc, DrawnNode, Shape
+from ..pictures.svg import marked, written
 from ..project.comparison import (
     BOTTLENECK,
     OPEN,
@@ -21,19 +25,10 @@ from ..project.comparison import (
     ArcState,
     Comparison,
     Known,
-    Standing,
-    compare,
     known_arcs,
 )
-from ..project.scenarios import project_of
 from ..subject_words import Words
 from ..workspace import Desk
-from .arrows import SVG, turn_arrow
-from .layout import NoPicture, Places
-from .picture import Picture
-from .responses import Json, WrongForm
-from .shapes import DrawnArc, DrawnNode, Shape
-from .svg import marked, written
 
 MORE, LESS, SAME = "#0b5394", "#a84300", "#767676"
 STYLE = f"""
@@ -319,83 +314,3 @@ def _fill_place(group: ElementTree.Element, name: str, roles: Iterable[_Found]) 
             first, second = arc.differs.first, arc.differs.second
             label += f", {first.told(BOTTLENECK)}, then {second.told(BOTTLENECK)}"
     marked(group, ["node"], label)
-
-
-MOST_DIFFERENCES, MOST_LISTED = 500, 300
-
-
-class Comparisons:
-    """The comparison that a page asked for last, which is kept until the next change."""
-
-    def __init__(self, desk: Desk, places: Places) -> None:
-        self._desk = desk
-        self._picture = DifferencePicture(desk, places)
-        self._kept: tuple[tuple[int, str, str], Comparison] | None = None
-
-    def of(self, one: str, two: str) -> Comparison:
-        """Return the comparison of two scenarios; `base` is the network of the table."""
-        desk = self._desk
-        project = project_of(desk)
-        key = desk.turn, one, two
-        if not self._kept or self._kept[0] != key:
-            found = compare(project, one, two)
-            # If the session has ended meanwhile, the turn is another one.
-            self._kept = (desk.turn, one, two), found
-        return self._kept[1]
-
-    def view(self, one: str, two: str, first: int, count: int) -> Json:
-        """Return a comparison, with `count` of the arcs that differ from the one at `first` on."""
-        if count > MOST_DIFFERENCES:
-            raise WrongForm(f"expected at most {MOST_DIFFERENCES} rows")
-        found = self.of(one, two)
-        numbers = dict(known_arcs(self._desk))
-        rows = [
-            {
-                "arc": it.arc,
-                "number": numbers.get(it.known, 0),
-                "node": self._node(it.known),
-                "kind": it.kind,
-                "first": it.first.told(BOTTLENECK),
-                "second": it.second.told(BOTTLENECK),
-            }
-            for it in found.arcs[first : first + count]
-        ]
-        same = found.first.limit == found.second.limit
-        told = {
-            "moved": moved(found.first.value, found.second.value),
-            "same_limit": same,
-            "total": len(found.arcs),
-        }
-        return {
-            "first": _standing(found.first),
-            "second": _standing(found.second),
-            **told,
-            "rows": rows,
-        }
-
-    def _node(self, known: Known) -> int:
-        """Return the place whose role an arc is, if it is one; else 0."""
-        role = self._desk.network.role(known) if isinstance(known, int) else None
-        return role.node if role else 0
-
-    def picture(self, one: str, two: str) -> Json:
-        """Return the picture of a comparison, and why it lacks arcs or cannot be drawn."""
-        found = self.of(one, two)
-        try:
-            svg, reason = self._picture.of(found)
-        except NoPicture as fault:
-            svg, reason = "", str(fault)
-        return {"svg": svg, "reason": reason}
-
-    def file(self, one: str, two: str) -> bytes:
-        """Return the picture as a file. Raise `NoPicture`."""
-        return self._picture.of(self.of(one, two), to_take=True)[0].encode()
-
-
-def _standing(it: Standing) -> Json:
-    return {
-        "name": it.name,
-        "value": plain_text(it.value),
-        "limit": list(it.limit[:MOST_LISTED]),
-        "limit_count": len(it.limit),
-    }

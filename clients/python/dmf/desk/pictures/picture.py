@@ -58,14 +58,22 @@ class Picture:
         """Return the picture of these arcs, and of these nodes even if they have no arc. With
         `to_take`, for a file of its own, it contains its style, and names in all places. Raises
         `NoPicture`."""
-        self._put_made()
+        self.put_made()
         shape = self._shapes.of(arcs, nodes)
         is_dotted = not to_take and (self.is_map or len(shape.nodes) > MOST_LAYERED)
         root = self.laid_out(shape, is_dotted=is_dotted)
         fill(root, shape, self._desk)
         return written(root, STYLE, caption(self._desk)) if to_take else written(root)
 
-    def _put_made(self) -> None:
+    def put(self, arcs: list[int], nodes: tuple[int, ...]) -> None:
+        """Give each place of a picture a spot. Raises `NoPicture`."""
+        self.put_made()
+        shape = self._shapes.of(arcs, nodes)
+        ways = shape.ways()
+        drawn = [it.node for it in shape.nodes]
+        self.places.put(drawn, [*ways.values()], _text(self._lines(shape, ways)))
+
+    def put_made(self) -> None:
         """Put each place that was made, and has no spot yet, beside its neighbours."""
         network, places = self._desk.network, self.places
         made = network.names.made

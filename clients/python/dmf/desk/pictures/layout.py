@@ -157,12 +157,30 @@ class Places:
         for node, spot in rough.items():
             self.spots[node] = taken.free(spot)
 
+    def put_among(self, nodes: Sequence[int], ways: Iterable[tuple[int, int]]) -> None:
+        """Put each of these nodes that has no spot among its neighbours by these ways, or, if they
+        have none, in the middle of all."""
+        beside: dict[int, list[int]] = defaultdict(list)
+        for tail, head in ways:
+            beside[tail].append(head)
+            beside[head].append(tail)
+        while left := [node for node in nodes if node not in self.spots]:
+            seen = self.seen
+            near = {node: [seen[one] for one in beside[node] if one in seen] for node in left}
+            rough = {node: _middle(found) for node, found in near.items() if found}
+            self.put_near(rough or dict.fromkeys(left, _middle([*seen.values()])))
+
     def put_beside(self, node: int, others: Sequence[Spot], lines: Iterable[Line]) -> None:
         """Put a place beside others, to the right of them and a little below, where no other place
         lies and, if there is such a spot, none of these lines."""
-        x, y = (sum(spot[axis] for spot in others) / len(others) for axis in (0, 1))
+        x, y = _middle(others)
         points = [point for line in lines for point in _points(*line)]
         self.spots[node] = _FreeSpots(self.seen.values()).free(Spot(x + WIDE, y - HIGH), points)
+
+
+def _middle(spots: Sequence[Spot]) -> Spot:
+    x, y = (sum(spot[axis] for spot in spots) / len(spots) for axis in (0, 1))
+    return Spot(x, y)
 
 
 def _points(begin: Spot, end: Spot) -> Iterator[Spot]:
