@@ -47,6 +47,7 @@ PACKAGES: dict[str, tuple[str, str, list[str]]] = {
     ),
     "glpsol": ("glpk-utils", "/usr/bin/glpsol", []),
     "scipy": ("python3-scipy", "/usr/lib/python3/dist-packages/scipy/__init__.py", []),
+    "networkx": ("python3-networkx", "/usr/lib/python3/dist-packages/networkx/__init__.py", []),
 }
 
 
