@@ -223,6 +223,12 @@ def faults(tmp_path_factory: pytest.TempPathFactory) -> str:
 
 
 @pytest.fixture(scope="session")
+def refusing_heap(tmp_path_factory: pytest.TempPathFactory) -> str:
+    """The library that refuses memory to the C library alone."""
+    return preloaded(tmp_path_factory, "refusing_heap")
+
+
+@pytest.fixture(scope="session")
 def interrupts(tmp_path_factory: pytest.TempPathFactory) -> str:
     """The library that interrupts calls to the system."""
     return preloaded(tmp_path_factory, "interrupts")

@@ -20,6 +20,7 @@ ROOMS = [
     [CORE],
     ["sweeps", "tables"],
     ["desk"],
+    ["desk.pictures"],
     ["desk.project"],
     ["desk.plan", "desk.board"],
     ["tools", "__main__"],

@@ -16,11 +16,13 @@ from conftest import ROOT
 SECONDS = 60
 PACKED, FACTS = "prebuilt/dmf-x86_64-linux.gz", "prebuilt/dmf-x86_64-linux.txt"
 PACKED_LIBRARY, LIBRARY = "prebuilt/libdmf-x86_64-linux.so.0.gz", "crates/dmf_c/out/libdmf.so.0"
+PACKED_ARCHIVE, ARCHIVE = "prebuilt/libdmf-x86_64-linux.a.gz", "crates/dmf_c/out/libdmf.a"
 SCRIPTS = ["dmf", "prove", ".ci/run", ".ci/typed", ".ci/bare_debian.sh"]
 SCRIPTS += [
     f"tools/{name}"
     for name in (
         "build.py",
+        "program_crates.py",
         "prebuilt",
         "format_rattle",
         "commands.sh",
@@ -74,7 +76,9 @@ shift 2
 ! grep -l "^UNFORMATTED" "$@"
 """
 PROGRAM = '#!/bin/sh\necho ran {} "$@"\n'
-MAKES_LIBRARY = '#!/bin/sh\nmkdir -p "$1" && echo "${LIBRARY:-a library}" >"$1/libdmf.so.0"\n'
+MAKES_LIBRARY = """#!/bin/sh
+mkdir -p "$1" && echo "${LIBRARY:-a library}" >"$1/libdmf.so.0" && echo "an archive" >"$1/libdmf.a"
+"""
 
 
 class Ended(NamedTuple):

@@ -53,6 +53,15 @@ def test_drivers(tmp_path: Path) -> None:
     ), "each solver has a time beside a check's"
 
 
+@pytest.mark.seconds(3)
+def test_chart(tmp_path: Path) -> None:
+    """The chart of README.md is what bench/chart draws of the tables in bench/README.md."""
+    ran = bench(tmp_path, str(tmp_path / "speed.svg"), script="chart")
+    assert ran.returncode == 0, ran.stderr
+    kept = ROOT / "docs/pictures/speed.svg"
+    assert (tmp_path / "speed.svg").read_bytes() == kept.read_bytes(), "bench/chart draws it anew"
+
+
 @pytest.mark.parametrize(
     "script, words, told",
     [
@@ -79,7 +88,7 @@ def worths(tmp_path_factory: pytest.TempPathFactory) -> Path:
     ran = bench(folder, *TOWN, "--town-arcs", "60", script="vital")
     assert ran.returncode == 0, ran.stderr
     ((name, *cells),) = rows_of(ran.stdout)
-    assert name == "road 300" and len(cells) == 8 and all(float(cell) >= 0 for cell in cells)
+    assert name == "road 300" and len(cells) == 9 and all(float(cell) >= 0 for cell in cells)
     assert re.search(r"worst pairs: \d\.\d+ in road 60, \d\.\d+ in street 60\.\n", ran.stdout)
     return folder
 

@@ -183,13 +183,17 @@ def with_library(clone: Clone, script: str) -> None:
 
 
 def test_another_library(clone: Clone) -> None:
-    """Sources that make another C library than the one of prebuilt/."""
-    with_library(clone, 'mkdir -p "$1" && echo another >"$1/libdmf.so.0"')
-    status, lines = ended(clone, *GATE)
-    said = (
-        "the library in prebuilt/ differs from out/library/libdmf.so.0: run `tools/prebuilt renew`"
-    )
-    assert (status, lines[-1], said in lines) == (1, "10 passed, 1 failed", True)
+    """Sources that make another C library than the one of prebuilt/, shared or static."""
+    made = {"libdmf.so.0": "a library", "libdmf.a": "an archive"}
+    for part, name in ("library", "libdmf.so.0"), ("archive", "libdmf.a"):
+        parts = {**made, name: "another"}.items()
+        makes = " && ".join(f'echo "{text}" >"$1/{file}"' for file, text in parts)
+        with_library(clone, f'mkdir -p "$1" && {makes}')
+        status, lines = ended(clone, *GATE)
+        said = (
+            f"the {part} in prebuilt/ differs from out/library/{name}: run `tools/prebuilt renew`"
+        )
+        assert (status, lines[-1], said in lines) == (1, "10 passed, 1 failed", True)
 
 
 def test_a_stale_library(clone: Clone) -> None:

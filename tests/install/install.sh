@@ -52,7 +52,8 @@ sum_of() {
     sha256sum | cut -d ' ' -f 1
 }
 echo "a library" | gzip >"$root/prebuilt/libdmf-x86_64-linux.so.0.gz"
-printf '%s\n' "library: $(echo "a library" | sum_of)" \
+echo "an archive" | gzip >"$root/prebuilt/libdmf-x86_64-linux.a.gz"
+printf '%s\n' "library: $(echo "a library" | sum_of)" "archive: $(echo "an archive" | sum_of)" \
     "library sources: $(cd "$root" && sha256sum crates.txt tools/dmf.map tools/library | sum_of)" >"$root/prebuilt/dmf-x86_64-linux.txt"
 
 stand_in() {
@@ -100,6 +101,7 @@ lines() {
         echo "$1 $2/share/man/man${file##*.}/${file#docs/}"
     done
     echo "$1 $2/lib/libdmf.so.0"
+    echo "$1 $2/lib/libdmf.a"
     echo "$1 $2/lib/libdmf.so"
     echo "$1 $2/lib/pkgconfig/dmf.pc"
     echo "$1 $2/lib/cmake/dmf/dmfConfig.cmake"
@@ -170,6 +172,7 @@ for pair in docs/dmf.1=share/man/man1/dmf.1 docs/dmf.3=share/man/man3/dmf.3 incl
 done
 same "the program can be run by all" "$(stat -c %a "$prefix/bin/dmf" "$prefix/lib/dmf/dmf" | uniq)" 755
 same "the library is put" "$(cat "$prefix/lib/libdmf.so.0") $(stat -c %a "$prefix/lib/libdmf.so.0")" "a library 644"
+same "the static library is put" "$(cat "$prefix/lib/libdmf.a") $(stat -c %a "$prefix/lib/libdmf.a")" "an archive 644"
 placed=$(tree "$prefix")
 call "a second call" 0 "$putting" "" --prefix="$prefix"
 same "a second call puts the same" "$(tree "$prefix")" "$placed"
@@ -200,9 +203,10 @@ install: the C library could not be built; nothing was installed
 cat >"$root/tools/library" <<'END'
 #!/bin/sh
 echo another library >"$1/libdmf.so.0"
+echo another archive >"$1/libdmf.a"
 END
 call "a library that is built" 0 "$putting" "$unlibraried" --prefix "$prefix"
-same "it is put" "$(cat "$prefix/lib/libdmf.so.0")" "another library"
+same "it is put" "$(cat "$prefix/lib/libdmf.so.0" "$prefix/lib/libdmf.a")" $'another library\nanother archive'
 mv "$root/library" "$root/tools/library"
 mv "$root/no prebuilt" "$root/prebuilt"
 

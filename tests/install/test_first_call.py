@@ -85,7 +85,7 @@ class Clone:
         for folder in "bin", "tools", "examples":
             (root / folder).mkdir()
         shutil.copy(ROOT / "dmf", root)
-        for tool in "build.py", "prebuilt", "commands.sh":
+        for tool in "build.py", "program_crates.py", "prebuilt", "commands.sh":
             shutil.copy(ROOT / "tools" / tool, root / "tools")
         (root / "crates.txt").write_text(CRATES)
         (root / "bin" / "rt").write_text(stand_in)

@@ -9,23 +9,26 @@ import resource
 import shutil
 import stat
 import subprocess
-import tempfile
-from collections.abc import Callable, Iterator
+from collections.abc import Callable
 from pathlib import Path
 
 import pytest
 from conftest import BUILT, ROOT
-from small_clone import FACTS, LIBRARY, PACKED, PACKED_LIBRARY, PROGRAM, SECONDS, Clone, Ended
+from prebuilt_clones import DAMAGES, clone, flipped, read_only, somebody
+from small_clone import (
+    FACTS,
+    PACKED,
+    PACKED_ARCHIVE,
+    PACKED_LIBRARY,
+    PROGRAM,
+    SECONDS,
+    Clone,
+    Ended,
+)
 
+# Fixtures.
+__all__ = ["clone", "read_only"]
 DAMAGED = rf"dmf: {PACKED} is damaged.*"
-NOBODY = 65534
-
-
-@pytest.fixture
-def clone(tmp_path: Path) -> Clone:
-    clone = Clone(tmp_path)
-    clone.renew()
-    return clone
 
 
 def refused(ended: Ended, why: str) -> bool:
@@ -125,21 +128,6 @@ def test_built_where_it_can_be(clone: Clone) -> None:
     )
 
 
-def flipped(content: bytes) -> bytes:
-    """A text with one bit in its middle turned round."""
-    at = len(content) // 2
-    return content[:at] + bytes([content[at] ^ 1]) + content[at + 1 :]
-
-
-DAMAGES: dict[str, Callable[[bytes], bytes]] = {
-    "a bit": flipped,
-    "a bit of the executable": lambda packed: gzip.compress(flipped(gzip.decompress(packed))),
-    "truncated": lambda packed: packed[:-9],
-    "empty": lambda packed: b"",
-    "another program": lambda packed: gzip.compress(b"#!/bin/sh\necho foreign\n"),
-}
-
-
 @pytest.mark.parametrize("damage", DAMAGES)
 def test_damaged(clone: Clone, damage: str) -> None:
     packed = clone.root / PACKED
@@ -210,31 +198,6 @@ def test_two_calls(clone: Clone) -> None:
     assert clone.left() == ["dmf"]
 
 
-@pytest.fixture
-def read_only() -> Iterator[Clone]:
-    """A clone that its caller may read and not write, in a folder that everybody can enter."""
-    with tempfile.TemporaryDirectory() as folder:
-        Path(folder).chmod(0o755)
-        clone = Clone(Path(folder))
-        clone.renew()
-        (clone.root / "crates/dmf").chmod(0o555)
-        yield clone
-        (clone.root / "crates/dmf").chmod(0o755)
-
-
-def somebody(clone: Clone) -> tuple[str, ...]:
-    """The words by which somebody calls who is not root, to whom the home belongs."""
-    if os.geteuid():
-        return ()
-    os.chown(clone.home, NOBODY, NOBODY)
-    return (
-        shutil.which("setpriv") or "",
-        f"--reuid={NOBODY}",
-        f"--regid={NOBODY}",
-        "--clear-groups",
-    )
-
-
 def test_read_only(read_only: Clone) -> None:
     """Where the clone cannot be written, the program lies in the caller's cache, and is looked at
     before each call."""
@@ -289,98 +252,19 @@ def test_compared(clone: Clone) -> None:
 
 
 def test_of_what_it_was_made(clone: Clone) -> None:
-    """The facts: six lines, the first two of which are those of VERSION and of `rt version`, and
+    """The facts: seven lines, the first two of which are those of VERSION and of `rt version`, and
     the same each time."""
     facts = (clone.root / FACTS).read_text()
-    names = ["executable", "sources", "library", "library sources"]
+    names = ["executable", "sources", "library", "library sources", "archive"]
     assert re.fullmatch(
         "version: 0.9.7\ntoolchain: a kit of the test\n"
         + "".join(f"{name}: [0-9a-f]{{64}}\n" for name in names),
         facts,
     )
-    files = [clone.root / name for name in (FACTS, PACKED, PACKED_LIBRARY)]
+    files = [clone.root / name for name in (FACTS, PACKED, PACKED_LIBRARY, PACKED_ARCHIVE)]
     before = [file.read_bytes() for file in files]
     clone.renew()
     assert [file.read_bytes() for file in files] == before
-
-
-def take_library(clone: Clone) -> Ended:
-    words = [str(clone.root / "tools/prebuilt"), "library"]
-    ran = subprocess.run(
-        words, env=clone.environment(), capture_output=True, text=True, timeout=SECONDS
-    )
-    return Ended(ran.returncode, ran.stdout, ran.stderr)
-
-
-def test_the_library(clone: Clone) -> None:
-    """It is put where it was built, and what it was made of is judged apart from the program."""
-    library = clone.root / LIBRARY
-    assert take_library(clone) == (0, f"{library}\n", "")
-    assert library.read_text() == "a library\n" and stat.S_IMODE(library.stat().st_mode) == 0o644
-    for changed in "crates/dmf_c/src/lib.rt", "tools/library", "tools/dmf.map":
-        path = clone.root / changed
-        before = path.read_text()
-        path.write_text(f"{before}# Changed.\n")
-        assert take_library(clone) == (
-            1,
-            "the C library of prebuilt/ was made from other sources\n",
-            "",
-        )
-        assert clone.check() == (
-            1,
-            "the C library of prebuilt/ was made from other sources: run `tools/prebuilt renew`\n",
-        )
-        assert clone.call().out == "ran the first\n"
-        path.write_text(before)
-    assert clone.check() == (0, "")
-
-
-@pytest.mark.parametrize("damage", DAMAGES)
-def test_a_damaged_library(clone: Clone, damage: str) -> None:
-    packed = clone.root / PACKED_LIBRARY
-    packed.write_bytes(DAMAGES[damage](packed.read_bytes()))
-    status, said, _ = take_library(clone)
-    assert (
-        status == 1
-        and said.startswith(f"{PACKED_LIBRARY} is damaged")
-        and not (clone.root / LIBRARY).exists()
-    )
-    assert clone.check() == (1, f"{said[:-1]}: run `tools/prebuilt renew`\n")
-    assert clone.call().out == "ran the first\n"
-
-
-def test_a_library_compared(clone: Clone) -> None:
-    program, library = clone.root / "crates/dmf/out/dmf", clone.root / LIBRARY
-    assert (clone.call().status, take_library(clone).status) == (0, 0)
-    assert clone.check(str(program), str(library)) == (0, "")
-    library.write_bytes(flipped(library.read_bytes()))
-    assert clone.check(str(program), str(library)) == (
-        1,
-        f"the library in prebuilt/ differs from {library}: run `tools/prebuilt renew`\n",
-    )
-    library.unlink()
-    assert clone.check(str(program), str(library)) == (1, f"{library} does not exist\n")
-
-
-def test_a_library_read_only(read_only: Clone) -> None:
-    """Where the clone cannot be written, the library lies in the caller's cache, beside the
-    program's."""
-    clone, by = read_only, somebody(read_only)
-    (clone.root / "crates/dmf_c").chmod(0o555)
-    words = [*by, str(clone.root / "tools/prebuilt"), "library"]
-    ran = subprocess.run(
-        words, env=clone.environment(), capture_output=True, text=True, timeout=SECONDS
-    )
-    (clone.root / "crates/dmf_c").chmod(0o755)
-    if not by:
-        return
-    (kept,) = clone.home.glob(".cache/dmf/*/libdmf.so.0")
-    assert (ran.returncode, ran.stdout, ran.stderr, kept.read_text()) == (
-        0,
-        f"{kept}\n",
-        "",
-        "a library\n",
-    )
 
 
 def test_words(clone: Clone) -> None:
@@ -391,7 +275,7 @@ def test_words(clone: Clone) -> None:
         ("take", "it"),
         ("library", "it"),
         ("renew", "it"),
-        ("check", "a", "b", "c"),
+        ("check", "a", "b", "c", "d"),
     ):
         ran = subprocess.run(
             [clone.root / "tools/prebuilt", *words], capture_output=True, text=True, timeout=SECONDS

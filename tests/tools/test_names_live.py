@@ -56,7 +56,7 @@ class Running:
         self.tool, self.input, self.error = tool, tool.stdin, tool.stderr
 
     def read_until(self, wanted: bytes) -> bytes:
-        """What comes until this has come, or for so many seconds at most."""
+        """Return all output up to and including these bytes, or what comes within SECONDS."""
         assert self.tool.stdout
         told, end = b"", time.monotonic() + SECONDS
         while (

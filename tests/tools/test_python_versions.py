@@ -1,9 +1,9 @@
 """The tools and the package on each Python that they support, from 3.9 to 3.13: what it cannot
 read, and what it does not have.
 
-Tests run on the Python of the machine. For the others the syntax is judged for each, and the types,
-by mypy, for the oldest and the newest. Debian's mypy takes 3.13, but does not know which modules
-that no longer has; those are listed here."""
+Tests run on the Python of the machine. For each the syntax is judged, and by mypy the types, with
+those of a caller. Debian's mypy takes 3.13, but does not know which modules that no longer has;
+those are listed here."""
 
 from __future__ import annotations
 
@@ -17,8 +17,7 @@ from pathlib import Path
 import pytest
 from client_shared import ROOT
 
-OLDEST, NEWEST = (3, 9), (3, 13)
-MINORS = range(OLDEST[1], NEWEST[1] + 1)
+MINORS = range(9, 13 + 1)
 # The modules that Python 3.12 and 3.13 no longer have, by "What's New" of each.
 GONE = {
     *("asynchat", "asyncore", "distutils", "imp", "smtpd"),
@@ -27,6 +26,7 @@ GONE = {
     *("tkinter.tix", "uu", "xdrlib"),
 }
 TOOLS = sorted(Path(ROOT, "tools").glob("dmf-*"))
+CALLER = Path(ROOT, "tests/client/typed_user.py")
 SOURCES = [*TOOLS, *sorted(Path(ROOT, "clients/python/dmf").rglob("*.py"))]
 NAMES = [path.name for path in SOURCES]
 
@@ -73,15 +73,15 @@ def test_what_is_gone_is_seen() -> None:
 
 
 @pytest.mark.seconds(20)
-@pytest.mark.parametrize("version", [OLDEST, NEWEST], ids=["oldest", "newest"])
-def test_what_it_does_not_have(version: tuple[int, int], tmp_path: Path) -> None:
+@pytest.mark.parametrize("minor", MINORS)
+def test_what_it_does_not_have(minor: int, tmp_path: Path) -> None:
     mypy = [
         sys.executable,
         "-m",
         "mypy",
-        "--python-version={}.{}".format(*version),
+        f"--python-version=3.{minor}",
         f"--cache-dir={tmp_path}",
         "--scripts-are-modules",
     ]
-    ran = subprocess.run([*mypy, *SOURCES], cwd=ROOT, capture_output=True, text=True)
+    ran = subprocess.run([*mypy, *SOURCES, CALLER], cwd=ROOT, capture_output=True, text=True)
     assert ran.returncode == 0, ran.stdout + ran.stderr

@@ -10,8 +10,8 @@ from pathlib import Path
 import pytest
 from client_shared import dmf
 from desk_shared import run
-from dmf.desk.board.picture import Picture
 from dmf.desk.export import picture_text
+from dmf.desk.pictures.picture import Picture
 from dmf.desk.workspace import Desk
 from dmf.tables.loader import LoadedProblem
 from dmf.text.problem_text import read_problem
