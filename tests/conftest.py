@@ -10,6 +10,7 @@ import subprocess
 import sys
 from collections.abc import Iterator
 from contextlib import contextmanager, nullcontext
+from functools import partial
 from itertools import islice
 from pathlib import Path
 from typing import Any, NamedTuple
@@ -18,9 +19,11 @@ import board_pages
 import built
 import pytest
 from _pytest.terminal import TerminalReporter
+from failures import failed_reports, reason, run_again
 from hypothesis import settings
 from hypothesis.database import DirectoryBasedExampleDatabase
 from kept import FOUND_FILE, shown_cases, with_cases
+from nested import run_pytest
 from sources import judged_at_once
 from tool_runs import Tools
 
@@ -43,6 +46,11 @@ def pytest_addoption(parser: pytest.Parser) -> None:
     parser.addoption("--cases", type=int, default=0, help="try so many seeded random cases")
     parser.addoption("--seed", type=int, default=1, help="of random cases")
     parser.addoption("--write", action="store_true", help="rewrite the files that tests compare")
+    parser.addoption(
+        "--again",
+        action="store_true",
+        help="run each test that failed once more, alone, and count that run",
+    )
 
 
 def set_drawn(config: pytest.Config) -> None:
@@ -138,18 +146,40 @@ def pytest_collection_modifyitems(config: pytest.Config, items: list[pytest.Item
 
 @pytest.hookimpl(hookwrapper=True, tryfirst=True)  # type: ignore[misc]
 def pytest_sessionfinish(session: pytest.Session) -> Iterator[None]:
-    """Keeps the shortest cases that failed, and ends with the line 'N passed, M failed', in which a
-    script counts for each of its cases, and a skipped test as one that failed. A worker of
-    pytest-xdist, which knows its own tests alone, does none of this.
+    """Keeps the shortest cases that failed, and ends with a line for each test that failed and the
+    line 'N passed, M failed', in which a script counts for each of its cases, and a skipped test as
+    one that failed. A worker of pytest-xdist, which knows its own tests alone, does none of this.
     """
     yield
     reporter = session.config.pluginmanager.get_plugin("terminalreporter")
     if reporter is None or hasattr(session.config, "workerinput"):
         return
+    keep_found(reporter)
+    has_ended = session.exitstatus in (pytest.ExitCode.OK, pytest.ExitCode.TESTS_FAILED)
+    if has_ended and session.config.getoption("--again"):
+        run_again(reporter, partial(run_alone, session.config))
     passed, failed = counted(reporter)
-    if failed and session.exitstatus == pytest.ExitCode.OK:
-        session.exitstatus = pytest.ExitCode.TESTS_FAILED
+    if has_ended:
+        session.exitstatus = pytest.ExitCode.TESTS_FAILED if failed else pytest.ExitCode.OK
+    for report in [*failed_reports(reporter), *reporter.stats.get("skipped", [])]:
+        reporter.write_line(f"failed: {report.nodeid}: {reason(report)}")
     reporter.write_line(f"{passed} passed, {failed} failed")
+
+
+def run_alone(config: pytest.Config, test: str) -> subprocess.CompletedProcess[str]:
+    """Runs a test with the same random cases, and with nothing beside it."""
+    words = [f"--{name}={config.getoption(name)}" for name in ("seed", "cases")]
+    words += ["--long"] if config.getoption("long") else []
+    return run_pytest(*words, test, folder=ROOT)
+
+
+def keep_found(reporter: TerminalReporter) -> None:
+    """Keeps the shortest cases that failed."""
+    reporter.ensure_newline()
+    shown = shown_cases(report.longreprtext for report in reporter.stats.get("failed", []))
+    if shown:
+        FOUND_FILE.write_text(with_cases(FOUND_FILE.read_text(), shown))
+        reporter.write_line(f"{FOUND_FILE.relative_to(ROOT)} keeps {len(shown)} cases that failed")
 
 
 def counted(reporter: TerminalReporter) -> tuple[int, int]:
@@ -165,7 +195,6 @@ def counted(reporter: TerminalReporter) -> tuple[int, int]:
             # The script itself was counted as one.
             passed += ran - (report.outcome == "passed")
             failed += max(wrong, 1) - 1 if report.outcome == "failed" else 0
-    reporter.ensure_newline()
     unmet = [
         set(it[1])
         for report in stats.get("passed", [])
@@ -175,10 +204,6 @@ def counted(reporter: TerminalReporter) -> tuple[int, int]:
     if len(unmet) >= GATE_CASES // BATCH and set.intersection(*unmet):
         failed += 1
         reporter.write_line(f"failed: no random case meets {sorted(set.intersection(*unmet))}")
-    shown = shown_cases(report.longreprtext for report in stats.get("failed", []))
-    if shown:
-        FOUND_FILE.write_text(with_cases(FOUND_FILE.read_text(), shown))
-        reporter.write_line(f"{FOUND_FILE.relative_to(ROOT)} keeps {len(shown)} cases that failed")
     if "root" in left_out(reporter.config):
         reporter.write_line("not run, since only root can: the tests that act as another user")
     return passed, failed

@@ -11,7 +11,7 @@ from typing import NamedTuple, Union
 
 from sources import ROOT
 
-SECONDS = 60
+SECONDS = 300
 Word = Union[str, bytes, Path]
 FULL = Path("/dev/full")
 TOOLS_TEXT = (ROOT / "clients/python/dmf/tools/tools.txt").read_bytes()

@@ -47,4 +47,4 @@ def at_a_terminal(
         for prompt, answer in zip(prompts, answers):
             assert terminal.wait_for(lambda told: prompt in told), terminal.told()
             terminal.type(answer)
-        return running.wait(timeout=60), terminal.close()
+        return running.wait(timeout=300), terminal.close()

@@ -7,7 +7,7 @@ import subprocess
 import sys
 from pathlib import Path
 
-SECONDS = 60
+SECONDS = 300
 BUILD = "import build_wheel, sys; print(build_wheel.{}(sys.argv[1]))"
 
 

@@ -17,7 +17,7 @@ from typing import IO
 from built import BUILT, heed_interrupts
 
 PAUSE = 0.8
-SECONDS = 60
+SECONDS = 300
 
 
 class Terminal:

@@ -36,6 +36,26 @@ SKIPPING = (
     "None:\n    pass\n"
 )
 
+# A test that fails while a file is there, between two that pass.
+BUSY = (
+    "import pathlib\n\n\ndef test_one() -> None:\n    pass\n\n\ndef test_busy() -> None:\n    assert not "
+    "pathlib.Path({!r}).exists(), 'busy'\n\n\ndef test_two() -> None:\n    pass\n"
+)
+# It runs a test alone as the nested pytest was run, after it has removed that file, or not.
+AGAIN = """import pathlib
+
+import conftest
+import test_gate
+
+def run_alone(config, test):
+    folder = pathlib.Path({!r})
+    if {!r}:
+        (folder / "busy").unlink()
+    return test_gate.nested(folder, "-k", test.rpartition("::")[2])
+
+conftest.run_alone = run_alone
+"""
+
 
 @pytest.fixture
 def clone(tmp_path: Path) -> Clone:
@@ -100,6 +120,15 @@ def test_failures(clone: Clone, said: str) -> None:
     assert ended(clone, *GATE, said=said)[1][-1] == f"{9 + (not missing)} passed, 1 failed"
     status, lines = ended(clone, *GATE, test=said)
     assert (status, lines[-1]) == (1, f"{9 + (not missing)} passed, 1 failed")
+
+
+def test_what_failed(clone: Clone) -> None:
+    """The gate ends with what failed in any part of it, and why."""
+    lines = ["failed: tests/test_one.py::test_one: assert 1 == 2", "1 passed, 1 failed"]
+    status, told = ended(clone, *GATE, test="\n".join(lines))
+    assert (status, told[-2:]) == (1, [lines[0], "10 passed, 1 failed"])
+    status, told = ended(clone, *GATE, said="rt: FAILED: low\n1 passed, 1 failed")
+    assert (status, told[-2:]) == (1, ["rt: FAILED: low", "10 passed, 1 failed"])
 
 
 @pytest.mark.parametrize(
@@ -232,6 +261,24 @@ def test_skipped(tmp_path: Path, variables: dict[str, str]) -> None:
     (tmp_path / "test_skipping.py").write_text(SKIPPING)
     ran = nested(tmp_path, **variables)
     assert (ran.returncode, ran.stdout.splitlines()[-1]) == (1, "1 passed, 1 failed")
+
+
+@pytest.mark.parametrize("is_busy, wanted", [(True, (0, 3, 0)), (False, (1, 2, 1))])
+def test_run_again(tmp_path: Path, is_busy: bool, wanted: tuple[int, int, int]) -> None:
+    """With --again, a test that failed while the machine was busy and passes alone has passed, and
+    a line names it; one that fails again has failed."""
+    busy = tmp_path / "busy"
+    busy.touch()
+    (tmp_path / "placed.py").write_text(AGAIN.format(str(tmp_path), is_busy))
+    (tmp_path / "test_it.py").write_text(BUSY.format(str(busy)))
+    ran = nested(tmp_path, "--again", "-p", "placed")
+    lines, (status, passed, failed) = ran.stdout.splitlines(), wanted
+    assert (ran.returncode, lines[-1]) == (status, f"{passed} passed, {failed} failed")
+    place = next(line for line in lines if line.startswith("failed"))
+    how = "failed beside other tests, and passed alone: " if is_busy else "failed alone, too: "
+    assert place.startswith(how) and place.endswith("test_it.py::test_busy")
+    assert any(line.endswith("test_busy: AssertionError: busy") for line in lines) != is_busy
+    assert nested(tmp_path, "-p", "placed").returncode == (0 if is_busy else 1)
 
 
 def test_the_program_is_taken(tmp_path: Path) -> None:

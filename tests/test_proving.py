@@ -14,7 +14,7 @@ from pathlib import Path
 import pytest
 from conftest import ROOT
 
-SECONDS = 60
+SECONDS = 300
 AT_CODE = (
     "refused, as it must be: note: src/links.rt:248:1: it is not proved that what the function "
     "ensures holds when it returns (`returns`); the facts known"

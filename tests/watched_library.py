@@ -14,7 +14,7 @@ import pytest
 from c_library import library_file
 from dmf.session import library as loaded
 
-SECONDS = 60
+SECONDS = 300
 # A network large enough that its calls run beside, whose solve takes a second on an idle processor:
 # a grid with arcs in three directions.
 GRID = """

@@ -3,6 +3,9 @@
 
 passed=0
 failed=0
+# The lines in which the commands told what failed, and why.
+failures=()
+tells_failure='^(failed: |edit .*: not refused at a goal: |rt: FAILED: )'
 
 # Runs a command, and adds the counts in its last line 'N passed, M failed'. If it prints no such line,
 # or fails without counting a failure, that counts as one failure.
@@ -12,6 +15,7 @@ count() {
     "$@" 2>&1 | tee "$said"
     status=${PIPESTATUS[0]}
     line=$(grep -E '^[0-9]+ passed, [0-9]+ failed' "$said" | tail -n 1)
+    mapfile -t -O "${#failures[@]}" failures < <(grep -E "$tells_failure" "$said" | sort -u)
     rm -f "$said"
     if [[ $line =~ ^([0-9]+)' passed, '([0-9]+)' failed' ]]; then
         passed=$((passed + BASH_REMATCH[1]))
@@ -32,8 +36,9 @@ count_one() {
     fi
 }
 
-# Prints the sum, and ends the script.
+# Prints what failed, and the sum, and ends the script.
 tell_count() {
+    [ "${#failures[@]}" -eq 0 ] || printf '%s\n' "${failures[@]}"
     echo "$passed passed, $failed failed"
     [ "$failed" -eq 0 ]
     exit

@@ -20,7 +20,7 @@ from conftest import BUILT, ROOT
 # What is written after each example.
 END = "\x1e"
 ROFF = {"\\[aq]": "'", "\\[rs]": "\\", "\\-": "-", "\\fB": "", "\\fP": ""}
-SECONDS = 60
+SECONDS = 300
 STORIES = [
     str(page.relative_to(ROOT)) for page in sorted((ROOT / "examples").glob("*/README.md"))
 ] + ["docs/TUTORIAL.md"]

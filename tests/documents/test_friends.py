@@ -17,7 +17,7 @@ from make_network import problem_of
 from oracle.problem import problem_text, read_problem
 from random_cases import network
 
-SECONDS = 60
+SECONDS = 300
 # Solvers compute in fractions of 15 digits.
 MOST = 10**12
 EXAMPLES = ["a", "b", "n", "town", "levels"]

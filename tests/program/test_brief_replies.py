@@ -102,7 +102,7 @@ def ran(
         cwd=folder,
         input=replies,
         capture_output=True,
-        timeout=60,
+        timeout=300,
     )
 
 

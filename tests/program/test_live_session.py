@@ -39,7 +39,7 @@ TURNS = [
     (b"close 1\nundo 2", b"c close value 0\n"),
     (b"\n", b"c undo value 5\n"),
 ]
-SECONDS = 20
+SECONDS = 300
 
 
 class Live:

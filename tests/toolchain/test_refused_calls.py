@@ -162,7 +162,7 @@ def run(library: str, at: int, row: int, *words: str) -> tuple[int, list[str], b
         ran = subprocess.run(
             [BUILT, *words],
             capture_output=True,
-            timeout=60,
+            timeout=300,
             env={**os.environ, "LD_PRELOAD": library, **faults},
         )
         return ran.returncode, ran.stdout.decode().splitlines(), b"memory" in calls.read()

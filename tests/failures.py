@@ -1,0 +1,54 @@
+"""What failed in a run of pytest: why, and whether it fails alone, too."""
+
+from __future__ import annotations
+
+import subprocess
+from collections.abc import Callable
+
+import pytest
+from _pytest.terminal import TerminalReporter
+
+# If more tests failed, it is not because the machine was busy.
+MOST_AGAIN = 20
+LONGEST_REASON = 300
+
+
+def failed_reports(reporter: TerminalReporter) -> list[pytest.TestReport]:
+    """What was reported of tests that failed, or before or after which something failed."""
+    return [report for how in ("failed", "error") for report in reporter.stats.get(how, [])]
+
+
+def reason(report: pytest.TestReport) -> str:
+    """Why a test failed or was skipped, in one line."""
+    crash = getattr(report.longrepr, "reprcrash", None)
+    lines = (crash.message if crash else report.longreprtext).splitlines()
+    return lines[0][:LONGEST_REASON] if lines else "no reason is told"
+
+
+def run_again(
+    reporter: TerminalReporter, run_alone: Callable[[str], subprocess.CompletedProcess[str]]
+) -> None:
+    """Runs each test that failed once more, alone: beside others it may have failed because they
+    took its processor. If it passes, a line says so, and it counts as passed; if it fails again,
+    its output is shown."""
+    tests = {report.nodeid for report in failed_reports(reporter)}
+    if len(tests) > MOST_AGAIN:
+        return
+    for test in sorted(tests):
+        ran = run_alone(test)
+        if ran.returncode == 0:
+            reporter.write_line(f"failed beside other tests, and passed alone: {test}")
+            count_as_passed(reporter, test)
+        else:
+            reporter.write_line(f"failed alone, too: {test}\n{ran.stdout}{ran.stderr}")
+
+
+def count_as_passed(reporter: TerminalReporter, test: str) -> None:
+    """Replaces all that was reported of a test by one report that it passed."""
+    passed = next(report for report in failed_reports(reporter) if report.nodeid == test)
+    for how, reports in reporter.stats.items():
+        reporter.stats[how] = [it for it in reports if getattr(it, "nodeid", "") != test]
+    passed.outcome = "passed"
+    # A script that failed counted only some of its cases.
+    passed.user_properties = [it for it in passed.user_properties if it[0] != "cases"]
+    reporter.stats.setdefault("passed", []).append(passed)
