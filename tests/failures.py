@@ -21,8 +21,8 @@ def failed_reports(reporter: TerminalReporter) -> list[pytest.TestReport]:
 def reason(report: pytest.TestReport) -> str:
     """Why a test failed or was skipped, in one line."""
     crash = getattr(report.longrepr, "reprcrash", None)
-    lines = (crash.message if crash else report.longreprtext).splitlines()
-    return lines[0][:LONGEST_REASON] if lines else "no reason is told"
+    text = str(crash.message if crash else report.longreprtext)
+    return text.partition("\n")[0][:LONGEST_REASON] or "no reason is told"
 
 
 def run_again(

@@ -180,6 +180,7 @@ def test_other_sources(clone: Clone) -> None:
         1,
         [
             "prebuilt/ was made from other sources: run `tools/prebuilt renew`",
+            "failed: in_clean_environment tools/prebuilt check",
             "1 passed, 1 failed",
         ],
     )
@@ -190,7 +191,8 @@ def test_unformatted(clone: Clone) -> None:
     names it."""
     (clone.root / "crates/low/src/lib.rt").write_text("UNFORMATTED\n")
     clone.renew()
-    assert ended(clone, *GATE) == (1, ["crates/low/src/lib.rt", "1 passed, 1 failed"])
+    told = "failed: in_clean_environment tools/format_rattle --check"
+    assert ended(clone, *GATE) == (1, ["crates/low/src/lib.rt", told, "1 passed, 1 failed"])
 
 
 def test_another_executable(clone: Clone) -> None:

@@ -20,10 +20,9 @@ count() {
     if [[ $line =~ ^([0-9]+)' passed, '([0-9]+)' failed' ]]; then
         passed=$((passed + BASH_REMATCH[1]))
         failed=$((failed + BASH_REMATCH[2]))
-        [ "$status" -eq 0 ] || [ "${BASH_REMATCH[2]}" -gt 0 ] || failed=$((failed + 1))
+        [ "$status" -eq 0 ] || [ "${BASH_REMATCH[2]}" -gt 0 ] || fail "status $status: $*"
     else
-        echo "no count: $*"
-        failed=$((failed + 1))
+        fail "no count: $*"
     fi
 }
 
@@ -32,8 +31,14 @@ count_one() {
     if "$@"; then
         passed=$((passed + 1))
     else
-        failed=$((failed + 1))
+        fail "$*"
     fi
+}
+
+# Counts a failure, which the last lines will tell.
+fail() {
+    failed=$((failed + 1))
+    failures+=("failed: $1")
 }
 
 # Prints what failed, and the sum, and ends the script.
