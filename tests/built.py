@@ -9,6 +9,7 @@ import signal
 import subprocess
 from typing import NamedTuple
 
+from limits import SECONDS
 from oracle import program
 from oracle.program import Outcome
 from oracle.session import Refusals
@@ -17,7 +18,6 @@ ROOT = os.path.dirname(os.path.dirname(os.path.abspath(__file__)))
 # tests/toolchain names a faulty copy of the program in place of it.
 BUILT = os.environ.get("DMF_BUILT") or os.path.join(ROOT, "crates", "dmf", "out", "dmf")
 PROBLEM = b"problem.max"
-SECONDS = 300
 # How much a pipe takes that nobody reads, in bytes.
 PIPE_SIZE = 1 << 16
 

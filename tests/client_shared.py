@@ -2,12 +2,14 @@
 that stand in for dmf."""
 
 import contextlib
+import fcntl
 import os
 import signal
 import subprocess
 import tempfile
+import termios
 import time
-from collections.abc import Iterable, Iterator
+from collections.abc import Callable, Iterable, Iterator
 from typing import Any
 
 import dmf as dmf
@@ -19,6 +21,8 @@ CLIENT = f"{ROOT}/clients/python"
 # The program that is tested, whichever else is installed.
 BUILT = f"{ROOT}/crates/dmf/out/dmf"
 os.environ["DMF"] = BUILT
+# After how many seconds, again and again, is looked whether a call can be broken off.
+MOMENT = 0.02
 # What is said of a row of another form.
 WANTED = (
     "expected (tail, head, capacity) or (tail, head, capacity, key), in which all but the "
@@ -114,11 +118,35 @@ def environment(**more: str) -> dict[str, str]:
     return {**os.environ, "PYTHONPATH": CLIENT, **more}
 
 
+def is_asked(process: int) -> bool:
+    """Return True if a program that does not read has a command to read."""
+    with open(f"/proc/{process}/fd/0", "rb") as pipe:
+        return any(fcntl.ioctl(pipe, termios.FIONREAD, bytes(4)))
+
+
+def has_written(file: str) -> Callable[[], bool]:
+    """Return a function that tells whether a script has written to this file."""
+    return lambda: os.path.exists(file) and os.path.getsize(file) > 0
+
+
 @contextlib.contextmanager
-def interrupted_soon(seconds: float = 0.05) -> Iterator[None]:
-    """A block that is broken off after a moment as by Ctrl-C."""
-    before = signal.signal(signal.SIGALRM, signal.default_int_handler)
-    signal.setitimer(signal.ITIMER_REAL, seconds)
+def interrupted_when(*conditions: Callable[[], bool]) -> Iterator[None]:
+    """A block that is broken off as by Ctrl-C once the first of these conditions holds, then once
+    the second does, and so on. Each is looked at again and again, until it has held for a moment:
+    a slow machine may take long until it does, and a signal that comes just before a call would be
+    heeded only after it."""
+    awaited, has_held = [*conditions], False
+
+    def look(*_: object) -> None:
+        nonlocal has_held
+        had_held, has_held = has_held, bool(awaited) and awaited[0]()
+        if had_held and has_held:
+            has_held = False
+            del awaited[0]
+            raise KeyboardInterrupt
+
+    before = signal.signal(signal.SIGALRM, look)
+    signal.setitimer(signal.ITIMER_REAL, MOMENT, MOMENT)
     try:
         yield
     finally:

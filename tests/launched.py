@@ -9,9 +9,9 @@ from collections.abc import Sequence
 from pathlib import Path
 from typing import NamedTuple, Union
 
+from limits import SECONDS
 from sources import ROOT
 
-SECONDS = 300
 Word = Union[str, bytes, Path]
 FULL = Path("/dev/full")
 TOOLS_TEXT = (ROOT / "clients/python/dmf/tools/tools.txt").read_bytes()

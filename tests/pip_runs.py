@@ -7,7 +7,8 @@ import subprocess
 import sys
 from pathlib import Path
 
-SECONDS = 300
+from limits import SECONDS
+
 BUILD = "import build_wheel, sys; print(build_wheel.{}(sys.argv[1]))"
 
 

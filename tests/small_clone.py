@@ -12,8 +12,8 @@ from pathlib import Path
 from typing import NamedTuple
 
 from conftest import ROOT
+from limits import SECONDS
 
-SECONDS = 300
 PACKED, FACTS = "prebuilt/dmf-x86_64-linux.gz", "prebuilt/dmf-x86_64-linux.txt"
 PACKED_LIBRARY, LIBRARY = "prebuilt/libdmf-x86_64-linux.so.0.gz", "crates/dmf_c/out/libdmf.so.0"
 PACKED_ARCHIVE, ARCHIVE = "prebuilt/libdmf-x86_64-linux.a.gz", "crates/dmf_c/out/libdmf.a"

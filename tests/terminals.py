@@ -15,9 +15,9 @@ from types import TracebackType
 from typing import IO
 
 from built import BUILT, heed_interrupts
+from limits import SECONDS
 
 PAUSE = 0.8
-SECONDS = 300
 
 
 class Terminal:

@@ -13,8 +13,8 @@ from pathlib import Path
 
 import pytest
 from conftest import ROOT
+from limits import SECONDS
 
-SECONDS = 300
 AT_CODE = (
     "refused, as it must be: note: src/links.rt:248:1: it is not proved that what the function "
     "ensures holds when it returns (`returns`); the facts known"

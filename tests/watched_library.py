@@ -5,20 +5,25 @@ from __future__ import annotations
 
 import contextlib
 import gc
+import subprocess
+import sys
 import threading
 import time
 from collections.abc import Iterator
 from typing import Any
 
 import pytest
+from built import heed_interrupts
 from c_library import library_file
+from client_shared import environment
 from dmf.session import library as loaded
+from limits import SECONDS
 
-SECONDS = 300
 # A network large enough that its calls run beside, whose solve takes a second on an idle processor:
-# a grid with arcs in three directions.
+# a grid with arcs in three directions. And a signal as of Ctrl-C soon after the call of the library
+# at a place has begun; what that call answers is listed.
 GRID = """
-import os, random, sys, time
+import os, random, signal, sys, threading
 import dmf
 
 def grid(side):
@@ -29,7 +34,31 @@ def grid(side):
     rows = [(*it, draw.randint(1, 99)) for it in ends if it[1][0] in inside and it[1][1] in inside]
     rows += [("s", (0, y), 10**6) for y in inside]
     return rows + [((side - 1, y), "t", 10**6) for y in inside]
+
+def interrupted_within(calls, place):
+    call, answers = calls[place], []
+    def noted(*words):
+        if not answers:
+            threading.Timer(0.05, os.kill, (os.getpid(), signal.SIGINT)).start()
+        answers.append(call(*words))
+        return answers[-1]
+    calls[place] = noted
+    return answers
 """
+
+
+def told_by(code: str, *words: str) -> str:
+    """Return what a process that heeds Ctrl-C writes, which runs this code with these words."""
+    ran = subprocess.run(
+        [sys.executable, "-c", code, *words],
+        env=environment(),
+        capture_output=True,
+        text=True,
+        timeout=SECONDS,
+        preexec_fn=heed_interrupts,
+    )
+    assert (ran.returncode, ran.stderr) == (0, "")
+    return ran.stdout
 
 
 @contextlib.contextmanager

@@ -12,8 +12,7 @@ from collections.abc import Callable
 
 import pytest
 from client_shared import CLIENT, PIPES, dmf, is_running, pipes, process_of
-
-SECONDS = 20
+from limits import SECONDS
 
 
 def test_it_ends() -> None:

@@ -15,8 +15,8 @@ from pathlib import Path
 
 import pytest
 from client_shared import BUILT, CLIENT, PIPES, ROOT, dmf, pipes, script
+from limits import SECONDS
 
-SECONDS = 20
 REAL = f'#!/bin/sh\nexec {BUILT} "$@"\n'
 # Prints the program that is found, and the one that a network runs whose caller may name one.
 ASK = """

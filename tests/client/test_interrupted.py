@@ -20,7 +20,9 @@ from client_shared import (
     CLIENT,
     dmf,
     ends,
-    interrupted_soon,
+    has_written,
+    interrupted_when,
+    is_asked,
     is_running,
     pipes,
     process_of,
@@ -29,16 +31,23 @@ from client_shared import (
 )
 from desk_shared import wait_until_asked
 from dmf import session_holder as running
+from limits import SECONDS
 from tool_runs import wait_until_asleep
-
-SECONDS = 20
 
 
 @contextlib.contextmanager
 def stopped(network: dmf.Network[str]) -> Iterator[None]:
     """A block in which the program never answers, and is broken off."""
-    stop(process_of(network).pid)
-    with pytest.raises(KeyboardInterrupt), interrupted_soon():
+    process = process_of(network).pid
+    stop(process)
+    with broken_off_when_asked(process):
+        yield
+
+
+@contextlib.contextmanager
+def broken_off_when_asked(process: int) -> Iterator[None]:
+    """A block that is broken off once a program has a command that it does not read."""
+    with pytest.raises(KeyboardInterrupt), interrupted_when(lambda: is_asked(process)):
         yield
 
 
@@ -115,12 +124,15 @@ def test_the_end_of_what_is_tried_out() -> None:
 def test_twice() -> None:
     """Ctrl-C while a new session begins ends it for good, and says so; `begin_again` tries once
     more."""
-    with script(f'[ ! -e "$0.slow" ] || kill -STOP $$\nexec {BUILT} "$@"') as program:
+    with script(
+        f'[ ! -e "$0.slow" ] || {{ echo >"$0.begun"; kill -STOP $$; }}\nexec {BUILT} "$@"'
+    ) as program:
         with prepared(program=program) as network, prepared() as other:
             with stopped(network):
                 network.solve()
             Path(f"{program}.slow").touch()
-            with interrupted_soon(), pytest.raises(KeyboardInterrupt):
+            begun = has_written(f"{program}.begun")
+            with pytest.raises(KeyboardInterrupt), interrupted_when(begun):
                 network.solve()
             os.remove(f"{program}.slow")
             for _ in range(2):
@@ -143,7 +155,7 @@ def test_another_value() -> None:
     )
     with script(count) as program, pipes(program=program) as network:
         network.solve()
-        with interrupted_soon(), pytest.raises(KeyboardInterrupt):
+        with broken_off_when_asked(process_of(network).pid):
             network.solve()
         Path(f"{program}.slow").touch()
         for _ in range(2):
@@ -161,7 +173,7 @@ def test_a_refusal_when_it_begins_anew() -> None:
     )
     with script(count) as program, pipes(program=program) as network:
         network.solve()
-        with interrupted_soon(), pytest.raises(KeyboardInterrupt):
+        with broken_off_when_asked(process_of(network).pid):
             network.solve()
         Path(f"{program}.slow").touch()
         with pytest.raises(

@@ -12,7 +12,7 @@ from typing import Any
 
 import pytest
 from broken_off import all_told, prepared
-from client_shared import BUILT, PIPES, dmf, interrupted_soon, pipes
+from client_shared import BUILT, PIPES, dmf, interrupted_when, pipes
 from dmf.session import library as loaded
 from dmf.session import worker_threads
 from watched_library import SECONDS, counted, slow_call, wait_until_freed
@@ -54,9 +54,9 @@ def test_what_was_broken_off_is_freed_at_its_end(monkeypatch: pytest.MonkeyPatch
     with counted(monkeypatch) as freed, prepared() as network, prepared(
         program=BUILT
     ) as other, slow_call(monkeypatch, "close") as (begun, until):
-        with pytest.raises(KeyboardInterrupt), interrupted_soon(0.3):
+        with pytest.raises(KeyboardInterrupt), interrupted_when(begun.is_set):
             network.close(("lake", "town"))
-        assert begun.is_set() and all_told(network) == all_told(other) and freed == []
+        assert all_told(network) == all_told(other) and freed == []
         until.set()
         wait_until_freed(freed)
 
@@ -79,9 +79,9 @@ def test_one_thread_runs_call_after_call(monkeypatch: pytest.MonkeyPatch) -> Non
             assert all_told(network) == all_told(other)
         assert len(begun) == 1
         with slow_call(monkeypatch, "close") as (is_begun, _):
-            with pytest.raises(KeyboardInterrupt), interrupted_soon(0.3):
+            with pytest.raises(KeyboardInterrupt), interrupted_when(is_begun.is_set):
                 network.close(("lake", "town"))
-            assert is_begun.is_set() and all_told(network) == all_told(other)
+            assert all_told(network) == all_told(other)
         assert len(begun) == 2
         child = os.fork()
         if child == 0:

@@ -15,8 +15,8 @@ from c_library import library_file
 from client_shared import BUILT, CLIENT, dmf, environment, pipes
 from dmf.session import library as loaded
 from dmf.session.process import ProgramSession
+from limits import SECONDS
 
-SECONDS = 60
 SILENT = """
 import sys
 begun = []

@@ -12,8 +12,7 @@ from typing import Any
 
 import pytest
 from client_shared import WANTED, answering, dmf, pipes, process_of
-
-SECONDS = 20
+from limits import SECONDS
 
 
 def program_of(network: dmf.Network[Any]) -> str:

@@ -10,12 +10,12 @@ from random import Random
 from typing import Any
 
 import pytest
-from client_shared import PIPES, dmf, interrupted_soon, is_running, script
+from client_shared import BUILT, PIPES, dmf, has_written, interrupted_when, is_running, script
+from limits import SECONDS
 from packages import load
 
 names = "numpy", "pandas", "networkx", "scipy.sparse", "scipy.sparse.csgraph"
 numpy, pandas, networkx, sparse, csgraph = map(load, names)
-SECONDS = 20
 ONE_CALL: list[Any] = [dmf.value, dmf.minimum_cut, dmf.maximum_flow, dmf.vital]
 DICTIONARY = {"lake": {"mill": 3, "town": 2}, "mill": {"town": 5, "sea": 2}, "town": {"sea": 3}}
 FLOWS = {
@@ -293,8 +293,9 @@ def test_faults() -> None:
 
 def test_nothing_is_left_behind() -> None:
     """Ctrl-C ends the program."""
-    with script('echo $$ >"$0.process"; exec sleep 60') as program:
-        with pytest.raises(KeyboardInterrupt), interrupted_soon(1):
+    hanging = f'test "$1" != --version || exec "{BUILT}" "$@"\necho $$ >"$0.process"; exec sleep 60'
+    with script(hanging) as program:
+        with pytest.raises(KeyboardInterrupt), interrupted_when(has_written(f"{program}.process")):
             dmf.value(DICTIONARY, "lake", "sea", program=program)
         process, until = int(Path(f"{program}.process").read_text()), time.monotonic() + SECONDS
         while is_running(process):

@@ -5,28 +5,23 @@ from __future__ import annotations
 
 import _thread
 import contextlib
-import signal
-import subprocess
-import sys
 import threading
-import time
 from collections.abc import Callable, Iterator
 from typing import Any
 
 import pytest
 from broken_off import all_told, prepared
-from built import heed_interrupts
 from c_library import library_file
-from client_shared import BUILT, dmf, environment, interrupted_soon
+from client_shared import BUILT, dmf, interrupted_when
 from dmf.session import library as loaded
 from dmf.session import worker_threads
-from dmf.session.statuses import NO_MEMORY
-from tool_runs import wait_until_asleep
-from watched_library import GRID, SECONDS, counted, slow_call, wait_until_freed
+from dmf.session.statuses import NO_MEMORY, OK, STOPPED
+from limits import SECONDS
+from watched_library import GRID, counted, slow_call, told_by, wait_until_freed
 
-# A solve of GRID's network. One arc is closed, and the change of another one undone, which can be
-# redone.
-STOPPED = (
+# A solve of GRID's network, which ends with what the library answers. One arc is closed, and the
+# change of another one undone, which can be redone.
+A_SOLVE = (
     GRID
     + """
 rows = grid(200)
@@ -36,18 +31,15 @@ for each in network, other:
     each.cap(((5, 5), (6, 5)), 7)
     each.undo()
 session = network._session
-print("begun", flush=True)
-input()
-began = time.monotonic()
+calls = session.way
+answers = interrupted_within(vars(calls), "solve_until")
 try:
     network.solve()
 except KeyboardInterrupt:
-    print(time.monotonic() - began, network.redo() - network.undo(), flush=True)
-began = time.monotonic()
+    print(answers, network.redo() - network.undo())
 plan = network.solve()
-took = time.monotonic() - began
-print(took, network._session is session, [*plan.values()] == [*other.solve().values()], flush=True)
-print(network.undo(2) == other.undo(2) == 0, network.problem() == other.problem(), flush=True)
+print(answers, network._session is session, [*plan.values()] == [*other.solve().values()])
+print(network.undo(2) == other.undo(2) == 0, network.problem() == other.problem())
 """
 )
 pytestmark = pytest.mark.usefixtures("by_library", "beside")
@@ -70,30 +62,10 @@ def interrupted(network: dmf.Network[str]) -> Iterator[None]:
 
 @pytest.mark.seconds(8)
 def test_ctrl_c() -> None:
-    """A signal to a process of its own: the solve ends in a small part of the time that it takes,
-    and the session has its changes, its undone ones too."""
-    with subprocess.Popen(
-        [sys.executable, "-c", STOPPED],
-        env=environment(),
-        stdin=subprocess.PIPE,
-        stdout=subprocess.PIPE,
-        text=True,
-        preexec_fn=heed_interrupts,
-    ) as user:
-        try:
-            assert user.stdin and user.stdout and user.stdout.readline() == "begun\n"
-            user.stdin.write("\n")
-            user.stdin.flush()
-            wait_until_asleep(user.pid)
-            time.sleep(0.05)
-            user.send_signal(signal.SIGINT)
-            stopped, redone = user.stdout.readline().split()
-            took, *told = user.stdout.readline().split()
-            assert (redone, told) == ("0", ["True", "True"])
-            assert float(stopped) < float(took) / 2
-            assert user.stdout.readline() == "True True\n" and user.wait(SECONDS) == 0
-        finally:
-            user.kill()
+    """A signal to a process of its own: the solve ends before it is done, and the session has its
+    changes, its undone ones too."""
+    told = told_by(A_SOLVE)
+    assert told == f"[{STOPPED}] 0\n[{STOPPED}, {OK}, {OK}] True True\nTrue True\n"
 
 
 @pytest.mark.parametrize("history", [None, 6])
@@ -108,9 +80,9 @@ def test_the_session_goes_on(monkeypatch: pytest.MonkeyPatch, history: int | Non
         session = network._session
         for _ in range(3):
             with slow_call(monkeypatch, "solve") as (begun, _):
-                with pytest.raises(KeyboardInterrupt), interrupted_soon(0.1):
+                with pytest.raises(KeyboardInterrupt), interrupted_when(begun.is_set):
                     network.solve()
-            assert begun.is_set() and network._session is session and not network._is_broken
+            assert network._session is session and not network._is_broken
             assert all_told(network) == all_told(other)
         assert freed == [] and len(threads) == 1
         assert list(network.solve().values()) == list(other.solve().values())
@@ -122,8 +94,8 @@ def test_a_flow_that_was_not_read(monkeypatch: pytest.MonkeyPatch) -> None:
     with prepared() as network, prepared(program=BUILT) as other:
         session, plan = network._session, network.solve()
         wanted = list(other.solve().values())
-        with slow_call(monkeypatch, "solve"):
-            with pytest.raises(KeyboardInterrupt), interrupted_soon(0.1):
+        with slow_call(monkeypatch, "solve") as (begun, _):
+            with pytest.raises(KeyboardInterrupt), interrupted_when(begun.is_set):
                 network.solve()
         assert network._session is session and list(plan.values()) == wanted
         assert all_told(network) == all_told(other)
@@ -132,18 +104,24 @@ def test_a_flow_that_was_not_read(monkeypatch: pytest.MonkeyPatch) -> None:
 def test_ctrl_c_twice(monkeypatch: pytest.MonkeyPatch) -> None:
     """The second one comes while the solve is about to end: it is left, and freed at its end."""
     calls: Any = loaded.load(library_file())
-    until, solve_until = threading.Event(), calls.solve_until
+    begun, raised, until = (threading.Event() for _ in range(3))
+    solve_until, put_up = calls.solve_until, calls.stop_raise
 
     def slow(*words: int) -> int:
+        begun.set()
         until.wait(SECONDS)
         return int(solve_until(*words))
+
+    def noted(stop: int) -> None:
+        put_up(stop)
+        raised.set()
 
     with counted(monkeypatch) as freed, prepared() as network:
         session = network._session
         with interrupted(network), monkeypatch.context() as patched:
             patched.setattr(calls, "solve_until", slow)
-            with interrupted_soon(0.1):
-                signal.setitimer(signal.ITIMER_REAL, 0.1, 0.2)
+            patched.setattr(calls, "stop_raise", noted)
+            with interrupted_when(begun.is_set, raised.is_set):
                 network.solve()
         assert network._session is not session and freed == []
         until.set()

@@ -15,8 +15,7 @@ from typing import Any
 import pytest
 from client_shared import BUILT, dmf, pipes, script
 from dmf.sweeps.copies import CaseAnswer
-
-SECONDS = 20
+from limits import SECONDS
 
 BESIDE = [("a", "b", 3, "x"), ("a", "b", 4, "y"), ("a", "b", 5, "z")]
 

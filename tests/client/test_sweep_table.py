@@ -16,13 +16,12 @@ from pathlib import Path
 import pytest
 from built import heed_interrupts
 from client_shared import ROOT
+from limits import SECONDS
 
 TOOL = [sys.executable, f"{ROOT}/tools/dmf-sweep"]
 INTO_TABLE = ["net.max", "--close-each", "--jobs", "1", "--table", "table.csv"]
 ARCS = 700
 ROOMS = [number % 7 + 1 for number in range(ARCS)]
-# A sweep that is waited for.
-SECONDS = 60
 
 
 @pytest.fixture(autouse=True)

@@ -2,14 +2,13 @@
 
 import os
 import signal
-import time
 from collections.abc import Callable
 from concurrent.futures import ProcessPoolExecutor, ThreadPoolExecutor
 from random import Random
 from typing import Any
 
 import pytest
-from client_shared import dmf, is_running, pipes, process_of
+from client_shared import dmf, interrupted_when, is_running, pipes, process_of, stop
 from oracle.network import smallest_side
 from oracle.session import Session, SolveReply
 from oracle.texts import LARGEST, Fault
@@ -17,7 +16,6 @@ from packages import load
 from random_cases import fitting
 from random_cases import network as random_network
 
-SECONDS = 20
 distributed = load("distributed")
 
 
@@ -215,20 +213,15 @@ def test_a_program_that_is_killed() -> None:
 def test_an_interrupt_ends_all() -> None:
     before = children()
     with pipes() as network:
+        stopped = []
 
         def wait(copy: dmf.Network[Any]) -> None:
-            os.kill(process_of(copy).pid, signal.SIGSTOP)
+            stop(process_of(copy).pid)
+            stopped.append(copy)
             copy.solve()
 
-        old = signal.signal(signal.SIGALRM, signal.default_int_handler)
-        signal.setitimer(signal.ITIMER_REAL, 0.5)
-        began = time.monotonic()
-        try:
-            with pytest.raises(KeyboardInterrupt):
-                list(dmf.sweep(network, [wait, wait], jobs=2))
-        finally:
-            signal.signal(signal.SIGALRM, old)
-        assert time.monotonic() - began < SECONDS
+        with pytest.raises(KeyboardInterrupt), interrupted_when(lambda: bool(stopped)):
+            list(dmf.sweep(network, [wait, wait], jobs=2))
         assert network.solve().value == 5
     # Networks of earlier tests may be collected meanwhile.
     assert children() <= before

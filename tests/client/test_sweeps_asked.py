@@ -4,7 +4,7 @@ implementation on the network of each case, and where something goes wrong meanw
 from __future__ import annotations
 
 import os
-import time
+import threading
 from collections.abc import Iterator
 from concurrent.futures import Future, ThreadPoolExecutor
 from contextlib import contextmanager
@@ -15,19 +15,18 @@ from unittest.mock import patch
 import pytest
 import strategies
 from c_losses import arcs_at, left
-from client_shared import BUILT, dmf, interrupted_soon
+from client_shared import BUILT, dmf, interrupted_when
 from dmf.session.base import Ranked
 from dmf.session.library import MOST_LOST_AT_ONCE, LibrarySession
 from dmf.sweeps.case_losses import LOOK, Question, Seconds
 from hypothesis import HealthCheck, given, settings
 from hypothesis import strategies as st
+from limits import SECONDS
 from oracle.network import State
 from packages import load
 
 pytestmark = pytest.mark.usefixtures("by_library")
 distributed = load("distributed")
-# In how many seconds a sweep is left, and how long a call of the library then goes on.
-SOON, LONG = 1.5, 5.0
 
 
 @contextmanager
@@ -84,7 +83,7 @@ def cases_of(draw: st.DrawFn, state: State) -> list[list[tuple[str, int]]]:
     return draw(st.lists(case, min_size=1, max_size=30))
 
 
-@settings(suppress_health_check=[HealthCheck.function_scoped_fixture])
+@settings(suppress_health_check=[HealthCheck.function_scoped_fixture, HealthCheck.too_slow])
 @given(data=st.data())
 def test_beside_whole_solves(data: Any) -> None:
     """Small networks, with loops, parallel arcs, arcs without capacity, and sums near 2^64."""
@@ -241,11 +240,12 @@ CHAIN = [(at, at + 1, 1) for at in range(MOST_LOST_AT_ONCE + 1)]
 @pytest.mark.parametrize("how", ["Ctrl-C", "Ctrl-C here", "closed"])
 def test_a_stop(how: str, monkeypatch: pytest.MonkeyPatch) -> None:
     """It takes effect at once, while the library looks for losses."""
-    began: list[float] = []
+    begun, until, ended = threading.Event(), threading.Event(), threading.Event()
 
     def slow(*_: object) -> None:
-        began.append(time.monotonic())
-        time.sleep(LONG)
+        begun.set()
+        until.wait(SECONDS)
+        ended.set()
 
     monkeypatch.setattr(Seconds, "is_asking_sooner", lambda *_, **__: True)
     threads = ThreadPoolExecutor(1)
@@ -257,13 +257,12 @@ def test_a_stop(how: str, monkeypatch: pytest.MonkeyPatch) -> None:
             assert next(results).value == 0
         monkeypatch.setattr(LibrarySession, "_losses", slow)
         if how == "closed":
-            stopped = time.monotonic()
             results.close()
         else:
-            with pytest.raises(KeyboardInterrupt), interrupted_soon(0.5):
+            with pytest.raises(KeyboardInterrupt), interrupted_when(begun.is_set):
                 list(results)
-            stopped = began[0] + 0.5
-        assert time.monotonic() - stopped < SOON
+        assert not ended.is_set()
+        until.set()
         monkeypatch.undo()
         assert network.solve().value == 1
     threads.shutdown(wait=False, cancel_futures=True)

@@ -13,10 +13,19 @@ from random import Random
 from typing import Any
 
 import pytest
-from client_shared import BUILT, ROOT, dmf, environment, interrupted_soon, is_running, script
+from client_shared import (
+    BUILT,
+    ROOT,
+    dmf,
+    environment,
+    has_written,
+    interrupted_when,
+    is_running,
+    script,
+)
 from dmf.sweeps import known_values
+from limits import SECONDS
 
-SECONDS = 20
 COUNT = 8
 NEVER = 10**9
 # A program that notes each run of `vital`, and one that cannot run it.
@@ -123,7 +132,7 @@ def test_interrupted(monkeypatch: pytest.MonkeyPatch) -> None:
     monkeypatch.setattr(known_values, "FEWEST", 1)
     hanging = f'test "$1" = vital || exec "{BUILT}" "$@"\necho $$ >"$0.process"; exec sleep 60'
     with script(hanging) as program, random_network(Random("stop"), program) as network:
-        with pytest.raises(KeyboardInterrupt), interrupted_soon(1):
+        with pytest.raises(KeyboardInterrupt), interrupted_when(has_written(f"{program}.process")):
             list(dmf.sweep(network, dmf.each_arc_closed()))
         process, until = int(Path(f"{program}.process").read_text()), time.monotonic() + SECONDS
         while is_running(process):

@@ -7,7 +7,7 @@ from __future__ import annotations
 import os
 import subprocess
 import sys
-import time
+import threading
 from collections.abc import Iterable
 from concurrent.futures import ProcessPoolExecutor
 from decimal import Decimal
@@ -16,10 +16,11 @@ from random import Random
 from typing import Any
 
 import pytest
-from client_shared import ROOT, dmf, environment, interrupted_soon
+from client_shared import ROOT, dmf, environment, interrupted_when
 from dmf.session.library import MOST_LOST_AT_ONCE, LibrarySession
 from dmf.sweeps import known_values
 from dmf.sweeps.copies import SolvedCopy
+from limits import SECONDS
 from packages import load
 
 networkx = load("networkx")
@@ -28,8 +29,6 @@ SHARE = known_values.SHARE
 COUNT = 6
 NODES = range(COUNT)
 SOURCE, SINK = 0, COUNT - 1
-# In how many seconds a call is left.
-SOON = 0.2
 # An arc by its number, with its ends and its capacity.
 Row = tuple[int, int, int, int]
 
@@ -260,22 +259,24 @@ def test_a_stop(asked: Any, call: str, value: int, monkeypatch: pytest.MonkeyPat
     """Ctrl-C while the library looks for the losses or gains takes effect at once, and the network
     is as it was."""
     look = getattr(LibrarySession, call)
-    asked_at: list[float] = []
+    begun, until, ended = threading.Event(), threading.Event(), threading.Event()
     # More arcs than the losses of are found in the caller's thread.
     chain = [(at, at + 1, 1) for at in range(MOST_LOST_AT_ONCE + 1)]
 
     def slow(*words: Any) -> Any:
-        asked_at.append(time.monotonic())
-        time.sleep(5)
+        begun.set()
+        until.wait(SECONDS)
+        ended.set()
         return look(*words)
 
     with dmf.Network(chain, 0, len(chain)) as network:
         assert network.solve().value == 1
         with monkeypatch.context() as slowed:
             slowed.setattr(LibrarySession, call, slow)
-            with pytest.raises(KeyboardInterrupt), interrupted_soon(0.5):
+            with pytest.raises(KeyboardInterrupt), interrupted_when(begun.is_set):
                 list(dmf.sweep(network, asked))
-            assert asked_at and time.monotonic() - asked_at[0] < 0.5 + SOON
+            assert not ended.is_set()
+            until.set()
         assert network.value == 1
         results = list(dmf.sweep(network, asked))
         assert [result.value for result in results] == [value] * len(results)

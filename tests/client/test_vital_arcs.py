@@ -11,12 +11,12 @@ from random import Random
 from typing import Any
 
 import pytest
-from client_shared import BUILT, dmf, interrupted_soon, is_running, pipes, script
+from client_shared import BUILT, dmf, has_written, interrupted_when, is_running, pipes, script
+from limits import SECONDS
 from packages import load
 
 names = "pandas", "networkx"
 pandas, networkx = map(load, names)
-SECONDS = 20
 COUNT = 6
 # An arc by its number, with its ends and its capacity.
 Row = tuple[int, int, int, int]
@@ -302,7 +302,9 @@ def test_interrupted() -> None:
     ) as program:
         with pipes(program=program) as network:
             plan = network.solve()
-            with pytest.raises(KeyboardInterrupt), interrupted_soon(1):
+            with pytest.raises(KeyboardInterrupt), interrupted_when(
+                has_written(f"{program}.process")
+            ):
                 network.vital()
             process, until = int(Path(f"{program}.process").read_text()), time.monotonic() + SECONDS
             while is_running(process):

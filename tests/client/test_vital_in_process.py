@@ -11,13 +11,13 @@ from typing import Any
 
 import pytest
 from c_library import library_file
-from client_shared import BUILT, PIPE_PAIRS, dmf, interrupted_soon, pipes, rows_by_number
+from client_shared import BUILT, PIPE_PAIRS, dmf, interrupted_when, pipes, rows_by_number
 from dmf.session import library as loaded
 from dmf.session.base import Part, Ranked
 from dmf.session.fresh import values_without
 from dmf.session.statuses import NO_MEMORY
+from limits import SECONDS
 
-SECONDS = 60
 # The values without each of the pipes, worked by hand.
 LEFT = [2, 3, 4, 3, 2]
 pytestmark = pytest.mark.usefixtures("by_library")
@@ -91,9 +91,9 @@ def test_broken_off(monkeypatch: pytest.MonkeyPatch) -> None:
     monkeypatch.setitem(library.losses, Ranked.ARCS, slow)
     with pipes() as network:
         plan = network.solve()
-        with pytest.raises(KeyboardInterrupt), interrupted_soon(0.3):
+        with pytest.raises(KeyboardInterrupt), interrupted_when(begun.is_set):
             network.vital()
-        assert begun.is_set() and (network.value, network.flow() == plan) == (5, True)
+        assert (network.value, network.flow() == plan) == (5, True)
         assert list(network.vital().values) == LEFT
         until.set()
 
@@ -164,8 +164,8 @@ def test_ranking_broken_off(monkeypatch: pytest.MonkeyPatch) -> None:
     monkeypatch.setitem(library.worst, Ranked.PAIRS, slow)
     with pipes() as network:
         plan = network.solve()
-        with pytest.raises(KeyboardInterrupt), interrupted_soon(0.3):
+        with pytest.raises(KeyboardInterrupt), interrupted_when(begun.is_set):
             network.vital_pairs()
-        assert begun.is_set() and (network.value, network.flow() == plan) == (5, True)
+        assert (network.value, network.flow() == plan) == (5, True)
         assert rows_by_number(network.vital_pairs()) == PIPE_PAIRS
         until.set()

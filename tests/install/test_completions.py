@@ -17,8 +17,8 @@ from typing import Set, Tuple
 import pytest
 from conftest import ROOT
 from dmf.tools import TOOLS as DMF_TOOLS
+from limits import SECONDS
 
-SECONDS = 300
 PROBLEM = "an odd.max"
 TABLES = ROOT / "clients/python/dmf/tools/tables.txt"
 # What a shell is told before it is typed to: a listing is shown at once, and whole. What zsh has

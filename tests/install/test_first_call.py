@@ -14,8 +14,8 @@ from pathlib import Path
 
 import pytest
 from conftest import ROOT
+from limits import SECONDS
 
-SECONDS = 300
 NONE_THERE = "dmf: prebuilt/dmf-x86_64-linux.gz does not exist or cannot be read"
 FIRST_CALL = (
     f"{NONE_THERE}.\ndmf: the program is proved and built. This happens once, and takes 9 to 15 "

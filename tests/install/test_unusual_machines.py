@@ -11,9 +11,9 @@ from tempfile import TemporaryDirectory
 from typing import NamedTuple
 
 import pytest
+from limits import SECONDS
 from trees import commit_all, copy_tracked
 
-SECONDS = 120
 NOBODY = 65_534
 PLAIN = {"PATH": "/usr/local/sbin:/usr/local/bin:/usr/sbin:/usr/bin:/sbin:/bin", "HOME": "/root"}
 ANSWER = "s 5\nf 1 2 3\nf 1 3 2\nf 2 3 1\nf 2 4 2\nf 3 4 3\nc cut 5\nc side 1\n"

@@ -18,6 +18,7 @@ from hypothesis import settings
 from hypothesis import strategies as st
 from hypothesis.stateful import RuleBasedStateMachine, initialize, rule
 from kept import Found
+from limits import SECONDS
 from oracle.network import State
 from oracle.problem import problem_text
 from oracle.session import MOST_KEPT, Session, SolveReply, command_of
@@ -39,7 +40,6 @@ TURNS = [
     (b"close 1\nundo 2", b"c close value 0\n"),
     (b"\n", b"c undo value 5\n"),
 ]
-SECONDS = 300
 
 
 class Live:

@@ -11,9 +11,9 @@ from typing import NamedTuple
 
 import pytest
 from conftest import BUILT, ROOT
+from limits import SECONDS
 from oracle.program import VERSION_LINE
 
-SECONDS = 300
 A = "examples/a.max"
 SOLUTION = b"s 5\nf 1 2 3\nf 1 3 2\nf 2 3 1\nf 2 4 2\nf 3 4 3\n"
 CUT = b"c cut 5\nc side 1\n"

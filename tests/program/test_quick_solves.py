@@ -16,6 +16,7 @@ import built
 import pytest
 from built import PROBLEM, Case
 from conftest import BUILT, ROOT
+from limits import SECONDS
 from make_network import problem_of
 from oracle.problem import read_problem
 from oracle.program import AnySolution
@@ -42,7 +43,6 @@ FAMILIES = (
 ARCS = 3000
 FEW, MANY = 200, 100_000
 Generate = Callable[[str, int], bytes]
-SECONDS = 300
 # Longer than reading is silent after its first report, in seconds.
 PAUSE = 0.4
 CHAIN = b"p max 3 2\nn 1 s\nn 3 t\na 1 2 7\na 2 3 4\n"

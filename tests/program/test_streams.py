@@ -12,10 +12,10 @@ from pathlib import Path
 import built
 import pytest
 from conftest import BUILT, ROOT
+from limits import SECONDS
 from oracle.program import VERSION_LINE
 from worked import WORKED
 
-SECONDS = 120
 A = (ROOT / "examples" / "a.max").read_bytes()
 SOLUTION = b"s 5\nf 1 2 3\nf 1 3 2\nf 2 3 1\nf 2 4 2\nf 3 4 3\n"
 CUT = b"c cut 5\nc side 1\n"

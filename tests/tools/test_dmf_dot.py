@@ -15,11 +15,11 @@ from pathlib import Path
 import pytest
 from built import heed_interrupts
 from conftest import BUILT, ROOT
+from limits import SECONDS
 from pictures_rows import CHAIN, DRAWN, FAULTS, HEAD, LINE, LITERAL, SESSION_FAULTS, SESSIONS, WAYS
 from tool_runs import Tools, put, wait_until_read
 
 TOOL = str(ROOT / "tools" / "dmf-dot")
-SECONDS = 20
 # What writes the problem of each picture. What is drawn is its solution with the cut.
 PICTURES = {
     "town": "cat examples/town.max",

@@ -16,6 +16,7 @@ from conftest import BUILT, ROOT
 from dmf.desk.export import table
 from dmf.desk.workspace import Desk
 from dmf.tables.loader import LoadedProblem
+from limits import SECONDS
 from names_faults import FAULTS, LATER
 from names_rows import (
     ROADS,
@@ -34,7 +35,6 @@ TOOL = str(ROOT / "tools" / "dmf-names")
 TOWN = str(ROOT / "examples" / "town.max")
 CARRIAGE_RETURNS = b'c node 1 la\rke\nc arc 1 ca\r"nal\np max 2 1\nn 1 s\nn 2 t\na 1 2 3\n'
 PIPE = subprocess.PIPE
-SECONDS = 20
 ASCII = {"LC_ALL": "C", "PYTHONIOENCODING": "ascii", "PYTHONUTF8": "0", "PYTHONCOERCECLOCALE": "0"}
 
 

@@ -16,13 +16,13 @@ import pytest
 from built import heed_interrupts
 from conftest import ROOT
 from dmf.tools.command import Status
+from limits import SECONDS
 from oracle import program
 from table_cases import PROBLEMS, VALUES, Case
 from table_faults import FAULTS, WARNINGS, WRONG_WORDS
 from tool_runs import Ran, Tools, put, wait_until_read
 
 TOOL = str(ROOT / "tools" / "dmf-problem")
-SECONDS = 60
 # How many random tables there are.
 TABLES = 60
 TAKEN = r"dmf-problem: (there are no titles: )?from [^;]+, to [^;]+, capacity .+"

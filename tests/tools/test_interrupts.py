@@ -14,10 +14,10 @@ from pathlib import Path
 import pytest
 from built import heed_interrupts
 from client_shared import BUILT, ROOT
+from limits import SECONDS
 from terminals import Terminal
 from tool_runs import wait_until_asleep
 
-SECONDS = 60
 INTERRUPTED = 130
 PROBLEM = "p max 2 1\nn 1 s\nn 2 t\na 1 2 3\n"
 TOOLS = {

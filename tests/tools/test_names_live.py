@@ -15,13 +15,13 @@ from typing import IO
 import pytest
 from built import heed_interrupts
 from conftest import BUILT, ROOT
+from limits import SECONDS
 from names_rows import ROADS
 from tool_runs import put, text, wait_until_asleep
 
 TOOL = str(ROOT / "tools" / "dmf-names")
 TOWN = str(ROOT / "examples" / "town.max")
 PIPE = subprocess.PIPE
-SECONDS = 20
 
 
 @contextmanager

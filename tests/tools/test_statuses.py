@@ -17,9 +17,9 @@ import pytest
 from conftest import ROOT
 from dmf.tools import TOOLS
 from dmf.tools.command import Status
+from limits import SECONDS
 
 pytestmark = pytest.mark.seconds(10)
-SECONDS = 60
 TABLE = "from,to,capacity\nLake,Mill,3\nLake,Town,2\nMill,Town,5\nMill,Sea,2\nTown,Sea,3\n"
 # The flow of README.md, on the arcs of this table in their order.
 ANSWER = "s 5\nf 1 2 3\nf 1 3 2\nf 2 3 1\nf 2 4 2\nf 3 4 3\n"
