@@ -9,8 +9,11 @@ from typing import Any
 
 # A name that the browser takes for this machine, under which a page is no secure context.
 OTHER_NAME = "board.example"
-# How long the page is waited for, in seconds.
-SECONDS = 60
+# How long the page is waited for, in seconds, and how long one script may run: less than the two
+# minutes for which selenium waits for an answer of the browser.
+SECONDS, SCRIPT_SECONDS = 120, 100
+# How often a browser is started that does not come up, as happens on a loaded machine.
+STARTS = 3
 # How long it is waited before the page is asked again whether something is so, at first and at
 # most, in seconds.
 SOON, LATE = 0.01, 0.2
@@ -24,10 +27,38 @@ if (part && (part.hidden || isLow)) {
   document.getElementById(part.getAttribute("aria-labelledby")).click();
 }
 """
+# Counts the requests of a page that are not answered yet. What an answer leads to at once, such as
+# the next request, begins before the request counts as answered. In braces, since a name declared
+# at the top of such a script would hide the window's own.
+COUNTED = """{
+window.underWay = 0;
+const { fetch } = window, { json } = Response.prototype;
+const counted = (answer) => {
+  window.underWay += 1;
+  const end = () => setTimeout(() => { window.underWay -= 1; });
+  answer.then(end, end);
+  return answer;
+};
+window.fetch = (...words) => counted(fetch(...words));
+Response.prototype.json = function () { return counted(json.call(this)); };
+}"""
+# Tells whether the page is still: nothing is being done or asked for, no picture is moving, and a
+# frame was drawn since. A page that is not seen draws none.
+STILL = """
+const tell = arguments[0], isStill = () => (window.underWay ?? 0) <= 0
+  && document.getElementById("main")?.getAttribute("aria-busy") === "false"
+  && !document.querySelector("#layers.gliding");
+const judge = () => tell(isStill());
+if (!isStill() || document.hidden) judge();
+else {
+  const late = setTimeout(judge, 2000);
+  requestAnimationFrame(() => setTimeout(() => { clearTimeout(late); judge(); }));
+}
+"""
 
 
-def browser() -> Iterator[Any]:
-    """Yield a headless Chromium."""
+def browser(*words: str) -> Iterator[Any]:
+    """Yield a headless Chromium that is started with these words too."""
     from selenium import webdriver
     from selenium.webdriver.chrome.service import Service
 
@@ -38,15 +69,28 @@ def browser() -> Iterator[Any]:
         "--disable-gpu",
         "--disable-dev-shm-usage",
         "--window-size=1280,1000",
+        *words,
     ):
         options.add_argument(word)
     options.add_argument(f"--host-resolver-rules=MAP {OTHER_NAME} 127.0.0.1")
     options.set_capability("goog:loggingPrefs", {"browser": "ALL"})
-    made = webdriver.Chrome(service=Service("/usr/bin/chromedriver"), options=options)
+    made = started(
+        lambda: webdriver.Chrome(service=Service("/usr/bin/chromedriver"), options=options)
+    )
     # On a loaded machine a page that paints may not answer for longer than the usual 30 seconds.
-    made.set_script_timeout(SECONDS)
+    made.set_script_timeout(SCRIPT_SECONDS)
     yield made
     made.quit()
+
+
+def started(start: Callable[[], Any]) -> Any:
+    """Return a browser that is started, if need be again."""
+    from selenium.common.exceptions import WebDriverException
+
+    for _ in range(STARTS - 1):
+        with contextlib.suppress(WebDriverException):
+            return start()
+    return start()
 
 
 def set_width(driver: Any, width: int) -> None:
@@ -78,8 +122,19 @@ class Page:
     def __init__(self, driver: Any, address: str) -> None:
         self.driver = driver
         if address:
+            self.count_requests()
             driver.get(address)
         self.ready()
+
+    def count_requests(self) -> None:
+        """Has each page of this tab count its requests from now on."""
+        tab, counted = self.driver.current_window_handle, vars(self.driver).setdefault(
+            "counted", []
+        )
+        if tab not in counted:
+            counted.append(tab)
+            words = {"source": COUNTED}
+            self.driver.execute_cdp_cmd("Page.addScriptToEvaluateOnNewDocument", words)
 
     def ready(self) -> None:
         script = (
@@ -90,12 +145,8 @@ class Page:
         self.settle()
 
     def settle(self) -> None:
-        """Waits until nothing is being done, and a picture that was moved is drawn again."""
-        script = (
-            "return document.getElementById('main').getAttribute('aria-busy') === 'false' && "
-            "!document.querySelector('#layers.gliding')"
-        )
-        self.wait(lambda: self.driver.execute_script(script))
+        """Waits until nothing is being done or asked for, and what is shown is drawn."""
+        self.wait(lambda: self.driver.execute_async_script(STILL))
 
     def know_worth(self) -> None:
         """Waits until the page shows what each arc is worth in the present state."""
@@ -109,23 +160,34 @@ class Page:
         """Waits until something is so. The longer it takes, the more seldom it is asked for, which
         takes time from the page too."""
         from selenium.common.exceptions import (
+            ElementClickInterceptedException,
+            ElementNotInteractableException,
+            JavascriptException,
             NoSuchElementException,
             StaleElementReferenceException,
             TimeoutException,
         )
 
-        pause, until = SOON, time.monotonic() + SECONDS
+        pause, until, last = SOON, time.monotonic() + SECONDS, None
         while time.monotonic() < until:
-            # What was found may be redrawn before it is asked, and a page that paints may answer
-            # late.
-            with contextlib.suppress(
-                NoSuchElementException, StaleElementReferenceException, TimeoutException
-            ):
+            # What was found may be redrawn, hidden or covered before it is asked or clicked, the
+            # page may be loaded anew, and one that paints may answer late.
+            try:
                 if is_so():
                     return
+                last = None
+            except (
+                ElementClickInterceptedException,
+                ElementNotInteractableException,
+                JavascriptException,
+                NoSuchElementException,
+                StaleElementReferenceException,
+                TimeoutException,
+            ) as error:
+                last = error
             time.sleep(pause)
             pause = min(1.5 * pause, LATE)
-        raise TimeoutException(f"after {SECONDS} seconds it is not so")
+        raise TimeoutException(f"after {SECONDS} seconds it is not so") from last
 
     def actions(self) -> Any:
         """What a pointer and keys do, one after the other, once it is performed."""
@@ -163,16 +225,9 @@ class Page:
     def act_on(self, find: Callable[[], Any], act: Callable[[Any], object]) -> None:
         """Does something to an element once it is there. Where it was replaced by another one, or
         was hidden, before this could be done to it, it is found again."""
-        from selenium.common.exceptions import (
-            ElementClickInterceptedException,
-            ElementNotInteractableException,
-        )
 
         def is_done() -> bool:
-            try:
-                act(self.reached(find()))
-            except (ElementClickInterceptedException, ElementNotInteractableException):
-                return False
+            act(self.reached(find()))
             return True
 
         self.wait(is_done)
@@ -213,6 +268,14 @@ class Page:
         self.wait(is_found)
         return found[0]
 
+    def press_role(self, role: str, name: str) -> None:
+        """Clicks what has this role, and a name that begins with this, once it is there."""
+        self.act_on(lambda: self.by_role(role, name), lambda found: found.click())
+
+    def focused_id(self) -> str:
+        """The id of what has the focus, or nothing."""
+        return str(self.driver.execute_script("return document.activeElement?.id ?? ''"))
+
     def write(self, place: str, *keys: str) -> None:
         """Types into a field, in place of what stands there."""
 
@@ -223,7 +286,8 @@ class Page:
         self.act_on(lambda: self.driver.find_element("css selector", place), type_keys)
 
     def choose(self, place: str, name: str) -> None:
-        """Clicks a part of the picture: its label, or if that has no room the part itself."""
+        """Clicks a part of the picture until it is chosen: its label, or if that has no room the
+        part itself. A label may move away under the pointer when others come."""
         from selenium.common.exceptions import ElementClickInterceptedException
 
         def click(label: Any) -> None:
@@ -238,9 +302,13 @@ class Page:
                 # The line of another part lies over it.
                 self.actions().move_to_element(label).click().perform()
 
+        def is_chosen() -> bool:
+            click(self.driver.find_element("css selector", f"#{place} text"))
+            self.settle()
+            return self.text("#what h3") == name
+
         self.settle()
-        self.act_on(lambda: self.driver.find_element("css selector", f"#{place} text"), click)
-        self.wait(lambda: self.text("#what h3") == name)
+        self.wait(is_chosen)
 
     def choose_found(self, name: str) -> None:
         """Chooses what a typed text finds first. What is found may be redrawn under the pointer,

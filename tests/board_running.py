@@ -14,6 +14,7 @@ from urllib.parse import urlsplit
 
 from built import heed_interrupts
 from desk_shared import ROOT, SECONDS, sessions_of
+from dmf.desk.board.connections import AFTER_BREAK
 
 JSON = {"Content-Type": "application/json"}
 
@@ -95,9 +96,9 @@ class Board:
         return self.ended()
 
     def ended(self) -> int:
-        """The status of the board, once it has ended."""
+        """The status of the board, once it has ended. It runs on for a while after its last page."""
         with contextlib.suppress(subprocess.TimeoutExpired):
-            self.process.communicate(timeout=SECONDS)
+            self.process.communicate(timeout=AFTER_BREAK + SECONDS)
         if self.process.poll() is None:
             self.process.kill()
         return self.process.wait()

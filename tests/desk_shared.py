@@ -20,7 +20,7 @@ from dmf.tables.loader import LoadedProblem
 
 ROOT = Path(__file__).resolve().parents[1]
 PIPES = "examples/water/pipes.csv"
-SECONDS = 60
+SECONDS = 120
 # The story of examples/water: the greatest values of the plan of today, with Market Street wider,
 # with a new pipe, without the Market link and without the Bridge pipe, as its page reckons them
 # from the limits.

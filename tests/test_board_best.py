@@ -117,8 +117,8 @@ def test_page(driver: Any) -> None:
         left = best([pipe for pipe in water() if pipe.name != "Station Road"])
         (won,) = [gain for name, _, gain in left if name == "Mill Lane"] or ["0"]
         page.wait(lambda: page.text("#second") == f"+{won}")
-        page.wait(lambda: shown(page, "best-table") == [[*row, "Try it"] for row in left])
-        assert not driver.execute_script(IS_OLD)
+        page.wait(lambda: not driver.execute_script(IS_OLD))
+        assert shown(page, "best-table") == [[*row, "Try it"] for row in left]
         it.do(what="shut", node=1)
         page.wait(lambda: page.value() == 0)
         page.know_worth()
@@ -131,14 +131,14 @@ def judge_trial(page: Page, it: Board, now: int, then: int) -> None:
     network is changed only once that is confirmed, and one click takes it back."""
     first = "#best-table tbody tr:first-child button"
     name = page.text(first).partition(",")[0]
-    page.act_on(lambda: page.by_role("button", "Try "), lambda found: found.click())
+    page.press_role("button", "Try ")
     page.settle()
     said = page.text("#best-trial p")
     assert name in said and said.endswith(f": {now} → {then}, {then - now} more.")
     assert page.driver.find_elements("css selector", "#picture .chosen")
     page.press("Leave it")
     assert (page.text("#best-trial"), page.value(), it.state()["at"]) == ("", now, 0)
-    page.act_on(lambda: page.by_role("button", "Try "), lambda found: found.click())
+    page.press_role("button", "Try ")
     assert page.after(lambda: page.press("Put it there")) == then
     assert page.text("#best-trial") == "" and it.state()["at"] == 1
     assert page.undo() == now
@@ -153,7 +153,7 @@ def test_trial(driver: Any) -> None:
         judge_trial(page, it, 165, int(best(water())[0][1]))
         page.know_worth()
         for name, then, gain in best(water()):
-            page.by_role("button", f"Try a second {name}").click()
+            page.press_role("button", f"Try a second {name}")
             said = f"A second {name}: 165 → {then}, {gain} more."
             page.wait(lambda: page.text("#best-trial p") == said)  # noqa: B023
         it.do(what="close", arc=1)

@@ -66,7 +66,16 @@ VIEW = """
 const box = document.querySelector("#picture svg").viewBox.baseVal;
 return [box.x, box.y, innerWidth / box.width];
 """
-RESTS = "return !document.getElementById('layers').matches('.gliding')"
+# Tells whether the view rests, and the picture in front is the one that the page asks for then:
+# around the middle of the view, or if that is far away, around the bottleneck.
+RESTS = """
+const tell = arguments[0], { href } = document.getElementById("take-svg");
+const isGliding = document.getElementById("layers").matches(".gliding");
+import("./ground.js").then(({ isFar, middlePlace }) => {
+  const near = href.match(/near=(.*?)&/)[1], node = middlePlace();
+  tell(!isGliding && (isFar() ? near === "" : node === null || near === String(node)));
+});
+"""
 CLICKED = """
 const [x, y] = arguments, under = document.elementFromPoint(x, y);
 under.dispatchEvent(new MouseEvent("click", { bubbles: true, clientX: x, clientY: y }));
@@ -116,11 +125,11 @@ class Map:
         return self.driver.execute_script(MOVED, kind, by, *spot, many)
 
     def rest(self) -> None:
-        """Waits until the view rests, and until the page is idle, when it paints the overview."""
-        self.page.wait(lambda: self.driver.execute_script(RESTS))
+        """Waits until the view rests, until the picture has what is near its middle, and until the
+        page is idle, when it paints the overview."""
+        self.page.wait(lambda: self.driver.execute_async_script(RESTS))
         self.page.settle()
-        script = "requestIdleCallback(() => setTimeout(arguments[0]), { timeout: 2000 })"
-        self.driver.execute_async_script(script)
+        self.driver.execute_async_script("requestIdleCallback(() => setTimeout(arguments[0]))")
 
 
 @pytest.fixture

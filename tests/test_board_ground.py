@@ -368,11 +368,9 @@ def judge_walk(page: Page, ground: Any) -> None:
     page.settle()
     driver.execute_script("document.getElementById(arguments[0]).focus()", f"node-{node[name]}")
     for _ in range(3):
-        before = driver.switch_to.active_element.get_attribute("id")
+        before = page.focused_id()
         page.actions().send_keys("\ue014").perform()
-        page.wait(
-            lambda: driver.switch_to.active_element.get_attribute("id") not in (before, None, "")
-        )
+        page.wait(lambda: page.focused_id() not in (before, ""))
     page.actions().send_keys("\ue007").perform()
     spot = dict(zip(ground["nodes"], ground["right"]))
     page.wait(lambda: page.text("#what h3") not in ("", name))

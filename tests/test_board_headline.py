@@ -130,7 +130,7 @@ def test_all_that_is_short(driver: Any, tmp_path: Path) -> None:
     with board(*town(tmp_path)) as it:
         show(driver, 1280, "light")
         page = Page(driver, it.address)
-        page.by_role("tab", "Selected").click()
+        page.press_role("tab", "Selected")
         rows = page.driver.execute_script(
             "return [...document.querySelectorAll('#short-table tbody tr')].map((row) => "
             "[...row.cells].map((it) => it.textContent))"

@@ -18,6 +18,7 @@ from typing import Any
 import pytest
 from board_running import Board, board
 from conftest import ROOT
+from desk_shared import SECONDS
 from dmf.desk.board.import_options import nothing_said
 from dmf.desk.board.stopping import Stoppable, Stopped
 from import_pages import CAPACITY, DROP, TODAY, VALLEY, ImportPage
@@ -308,7 +309,7 @@ def test_traced_afterwards() -> None:
         env={"PYTHONPATH": str(ROOT / "clients" / "python")},
         capture_output=True,
         text=True,
-        timeout=20,
+        timeout=SECONDS,
     )
     assert (ran.stdout, ran.stderr) == ("stopped\n45\n", "")
 

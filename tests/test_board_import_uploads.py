@@ -108,8 +108,8 @@ def test_stop_while_a_file_is_sent(tmp_path: Path) -> None:
         assert sent(it, "b.csv", PLAIN.encode())[1]["file"]["name"] == "b.csv"
 
 
-# How fast a slow line takes bytes, and what it takes a minute for, in bytes.
-SLOW = {"offline": False, "latency": 0, "downloadThroughput": -1, "uploadThroughput": 20_000}
+# How many bytes a slow line takes in a second, and what it takes four minutes for, in bytes.
+SLOW = {"offline": False, "latency": 0, "downloadThroughput": -1, "uploadThroughput": 5_000}
 LONG = 1_200_000
 
 

@@ -121,15 +121,16 @@ def test_no_program_is_left(tmp_path: Path, monkeypatch: pytest.MonkeyPatch) -> 
         assert not program.exists() or not program.read_text()
 
 
-# Lets a page hear that a layout is done once `goOn` is called.
-HELD = """
+# Lets a page hear that a layout is done once `goOn` is called. In braces, since a name declared at
+# the top of a script that runs before those of a page would hide the window's own from them.
+HELD = """{
 const { fetch } = window;
 const released = new Promise((resolve) => { window.goOn = resolve; });
 window.fetch = async (path, ...rest) => {
   if (path === "tidied") await released;
   return fetch(path, ...rest);
 };
-"""
+}"""
 # Where the middle of a line is on the screen.
 LINE = """
 const path = document.querySelector(`#${arguments[0]} path:not(.wide)`);
@@ -153,6 +154,7 @@ def test_all_laid_out(driver: Any, tmp_path: Path) -> None:
         page.choose(f"arc-{arc['number']}", arc["short"])
         page.press("What is chosen")
         page.press("Smaller")
+        page.settle()
         before, scale = driver.execute_script(LINE, f"arc-{arc['number']}"), driver.execute_script(
             SCALE
         )
@@ -160,6 +162,7 @@ def test_all_laid_out(driver: Any, tmp_path: Path) -> None:
         page.wait(lambda: "close" in page.text("#way"))
         driver.execute_script("goOn()")
         page.wait(lambda: "All 968 are drawn" in page.text("#drawn-note"))
+        page.settle()
         assert driver.execute_script(SCALE) == pytest.approx(scale, rel=1e-3)
         assert driver.execute_script(LINE, f"arc-{arc['number']}") == pytest.approx(before, abs=1)
         assert page.text("#what h3") == arc["short"]

@@ -15,7 +15,7 @@ from board_pages import Page, set_width
 from board_running import Board as Running
 from board_running import board
 from board_views import SCALE, spots
-from desk_shared import PIPES, ROOT
+from desk_shared import PIPES, ROOT, SECONDS
 from dmf.desk.board.routes import Board
 from dmf.desk.project.opener import project_desk
 from dmf.desk.project.scenarios import project_of
@@ -59,6 +59,20 @@ def moved_by(before: Spots, now: Spots) -> dict[str, Any]:
         for part, (x, y) in now.items()
         if (x, y) != before[part]
     }
+
+
+# Lets keys rest once `rest` is called, and not when they have rested for a time.
+RESTS = """
+const { setTimeout, clearTimeout } = window, held = new Map();
+let last = 0;
+window.setTimeout = (done, pause, ...rest) => {
+  if (pause !== 400) return setTimeout(done, pause, ...rest);
+  held.set(last -= 1, done);
+  return last;
+};
+window.clearTimeout = (timer) => held.delete(timer) || clearTimeout(timer);
+window.rest = () => { for (const done of [...held.values()]) done(); held.clear(); };
+"""
 
 
 def move(it: Running, node: int, right: float, down: float) -> Any:
@@ -161,15 +175,19 @@ def test_keys(driver: Any) -> None:
         page = Page(driver, it.address)
         before, mill = spots(it), node_of(it, "Mill")
         scale = driver.execute_script(SCALE)
+        driver.execute_script(RESTS)
         driver.execute_script("document.getElementById(arguments[0]).focus()", f"node-{mill}")
         page.actions().key_down(ALT).send_keys(RIGHT, RIGHT, DOWN).key_down(SHIFT).send_keys(
             DOWN
         ).key_up(SHIFT).key_up(ALT).perform()
+        assert spots(it) == before
+        driver.execute_script("rest()")
         page.wait(lambda: page.text("#news") == "Mill was moved.")
+        page.settle()
         assert moved_by(before, spots(it)) == {
             f"node-{mill}": pytest.approx((40 / scale, 22 / scale), abs=0.02)
         }
-        assert driver.switch_to.active_element.get_attribute("id") == f"node-{mill}"
+        assert page.focused_id() == f"node-{mill}"
         page.actions().key_down(ALT).send_keys(BACKSPACE).key_up(ALT).perform()
         page.wait(lambda: page.text("#news") == "Mill lies where it was before.")
         assert spots(it) == before
@@ -261,7 +279,7 @@ def test_a_map_takes_moves_back(tmp_path: Path) -> None:
         with board("--map", str(map_table), str(path)) as it:
             spots(it)
             it.process.send_signal(2)
-            said = it.process.communicate(timeout=60)[1]
+            said = it.process.communicate(timeout=SECONDS)[1]
         assert told in said and ("by hand" in said) == bool(told)
     assert "moved" not in json.loads(path.read_text())
 

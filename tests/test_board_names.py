@@ -16,10 +16,15 @@ pytestmark = pytest.mark.seconds(20)
 # Draws the map larger, and returns the names that are written, with the boxes of their letters in
 # the window; and which part of the window nothing lies over.
 NAMES = """
-const [times, done] = arguments, pen = CanvasRenderingContext2D.prototype, write = pen.fillText;
-const names = [], canvas = document.getElementById("ground").getBoundingClientRect();
+const [times, done] = arguments, pen = CanvasRenderingContext2D.prototype;
+const { fillText: write, clearRect: clear } = pen, names = [];
+const canvas = document.getElementById("ground").getBoundingClientRect();
 for (let at = 0; at < times; at += 1) document.getElementById("larger").click();
 requestAnimationFrame(() => {
+  pen.clearRect = function (...box) {
+    names.length = 0;
+    return clear.apply(this, box);
+  };
   pen.fillText = function (text, x, y) {
     const { a, d, e, f } = this.getTransform(), half = this.measureText(text).width * a / 2;
     const [right, down] = [canvas.left + a * x + e, canvas.top + d * y + f];
@@ -28,7 +33,7 @@ requestAnimationFrame(() => {
   };
   document.getElementById("larger").click();
   requestAnimationFrame(() => requestAnimationFrame(() => {
-    pen.fillText = write;
+    Object.assign(pen, { fillText: write, clearRect: clear });
     const box = (id) => document.getElementById(id).getBoundingClientRect();
     done([names, [0, box("head").bottom, box("fold").left, box("foot").top]]);
   }));

@@ -15,7 +15,7 @@ from xml.etree import ElementTree
 import pytest
 from board_running import board
 from board_views import grid_table, spots
-from desk_shared import PIPES, ROOT
+from desk_shared import PIPES, ROOT, SECONDS
 from test_board_ground import city
 
 pytestmark = pytest.mark.seconds(10)
@@ -114,7 +114,7 @@ def test_table_of_places(tmp_path: Path) -> None:
             }
             seen = {name: [*map(float, spots(it)[at])] for name, at in node.items()}
             it.process.send_signal(2)
-            assert told in it.process.communicate(timeout=60)[1]
+            assert told in it.process.communicate(timeout=SECONDS)[1]
         shares = [
             (seen["Mill"][axis] - seen["Reservoir"][axis])
             / (seen["Harbour"][axis] - seen["Reservoir"][axis])
@@ -124,7 +124,7 @@ def test_table_of_places(tmp_path: Path) -> None:
     table.write_text("place,lets through\nMill,60\n")
     with board("--places", str(table), PIPES) as it:
         it.process.send_signal(2)
-        assert "map" not in it.process.communicate(timeout=60)[1]
+        assert "map" not in it.process.communicate(timeout=SECONDS)[1]
 
 
 def test_places_that_go(tmp_path: Path) -> None:

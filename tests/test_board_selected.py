@@ -95,7 +95,7 @@ def test_pipe(driver: Any, width: int) -> None:
         find(page, "Mill Lane")
         assert page.text("#what .chips") == "bottleneck full"
         twice = [*water(), next(pipe for pipe in water() if pipe.name == "Mill Lane")]
-        page.by_role("button", "Try a second one").click()
+        page.press_role("button", "Try a second one")
         page.wait(lambda: page.fact("A second one") == f"+{greatest(twice) - 165}")
         judge_rows(page)
         assert page.after(lambda: page.press("Close it")) == without("Mill Lane")

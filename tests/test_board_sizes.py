@@ -169,16 +169,17 @@ def judge_keys(page: Page, it: Board) -> None:
     driver = page.driver
     before = page.text("#what h3")
     driver.find_element("id", "picture").send_keys("0", RIGHT)
-    page.wait(lambda: str(driver.switch_to.active_element.get_attribute("id")).startswith("node-"))
-    driver.switch_to.active_element.send_keys(ENTER)
+    page.wait(lambda: page.focused_id().startswith("node-"))
+    page.actions().send_keys(ENTER).perform()
     page.wait(lambda: page.text("#what h3") not in ("", before))
     place = page.text("#what h3")
     assert place in it.told(f"find?text={place}")["found"][0]["label"]
     seen = "return document.querySelector('#picture svg').viewBox.baseVal.width"
     wide = driver.execute_script(seen)
-    driver.switch_to.active_element.send_keys("++")
+    page.settle()
+    page.actions().send_keys("++").perform()
     assert driver.execute_script(seen) == pytest.approx(wide / 1.4 / 1.4, rel=0.01)
-    driver.switch_to.active_element.send_keys(ESCAPE)
+    page.actions().send_keys(ESCAPE).perform()
     page.wait(lambda: page.text("#what").startswith("Click a pipe"))
     page.press("All")
     assert all(

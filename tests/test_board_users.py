@@ -10,12 +10,12 @@ import signal
 import socket
 import subprocess
 import time
-from collections.abc import Iterator
+from collections.abc import Callable, Iterator
 from pathlib import Path
 from urllib.parse import urlsplit
 
 import pytest
-from board_running import board
+from board_running import Board, board
 from built import heed_interrupts
 from desk_shared import PIPES, ROOT, SECONDS, run
 
@@ -143,6 +143,18 @@ for _ in range(600):
 """
 
 
+def held_by(it: Board, kind: str) -> int:
+    """How many files (`fd`) or threads (`task`) a board has."""
+    return len(list(Path(f"/proc/{it.process.pid}/{kind}").iterdir()))
+
+
+def wait_until(is_so: Callable[[], bool], or_else: str) -> None:
+    until = time.monotonic() + SECONDS
+    while not is_so():
+        assert time.monotonic() < until, or_else
+        time.sleep(0.05)
+
+
 def ports_held(port: int) -> int:
     """How many ports another user's ends of connections to a port have."""
     rows = [line.split() for line in Path("/proc/net/tcp").read_text().splitlines()[1:]]
@@ -158,22 +170,17 @@ def test_crowd() -> None:
         with another(CROWD, 1_000, it.port) as held:
             assert int(held) > 0
             for _ in range(20):
-                begin = time.monotonic()
                 assert it.state()["value"] == "165"
-                assert time.monotonic() - begin < SECONDS / 2
-            files, threads = (
-                len(list(Path(f"/proc/{it.process.pid}/{kind}").iterdir()))
-                for kind in ("fd", "task")
+            # What ended last may not have been cleared away yet.
+            wait_until(
+                lambda: held_by(it, "fd") < 50 and held_by(it, "task") < 50,
+                "the board holds more than a few strangers",
             )
-            assert files < 50 and threads < 50, f"{files} files and {threads} threads for strangers"
             # Those that send a byte now and then may not stay either, and hold no port of this
             # machine.
-            until = time.monotonic() + SECONDS
-            while len(list(Path(f"/proc/{it.process.pid}/task").iterdir())) > 4 or ports_held(
-                it.port
-            ):
-                assert time.monotonic() < until, f"strangers stay, with {ports_held(it.port)} ports"
-                time.sleep(0.1)
+            wait_until(
+                lambda: held_by(it, "task") <= 4 and not ports_held(it.port), "strangers stay"
+            )
 
 
 # Comes and goes as often as it can, for some seconds.
@@ -190,16 +197,18 @@ while time.monotonic() < until:
 """
 
 
+def is_asleep(thread: int) -> bool:
+    return Path(f"/proc/{thread}/stat").read_text().rpartition(") ")[2].startswith("S")
+
+
 @pytest.mark.root
 @pytest.mark.seconds(5)
 def test_flood() -> None:
     """A page gets in also while another user comes as often as possible."""
     with board(PIPES) as it:
         with another(FLOOD, it.port):
-            begin = time.monotonic()
             for _ in range(20):
                 assert it.state()["value"] == "165"
-            assert time.monotonic() - begin < SECONDS
 
 
 def test_no_file_left() -> None:
@@ -210,26 +219,14 @@ def test_no_file_left() -> None:
         for _ in range(60):
             pages.append(socket.create_connection(("127.0.0.1", it.port), SECONDS))
             pages[-1].sendall(f"GET {it.root}life HTTP/1.1\r\nHost: {it.host}\r\n\r\n".encode())
-        until = time.monotonic() + SECONDS
-        while len(list(Path(f"/proc/{it.process.pid}/fd").iterdir())) < 39:
-            assert time.monotonic() < until, "the board has files left"
-            time.sleep(0.05)
-
-        def ticks() -> int:
-            return sum(
-                map(
-                    int,
-                    Path(f"/proc/{it.process.pid}/stat")
-                    .read_text()
-                    .rpartition(") ")[2]
-                    .split()[11:13],
-                )
-            )
-
-        before = ticks()
-        time.sleep(2)
-        spent = (ticks() - before) / os.sysconf("SC_CLK_TCK")
-        assert spent < 0.3, f"it spends {spent} of 2 seconds"
+        wait_until(lambda: held_by(it, "fd") >= 39, "the board has files left")
+        # The thread that takes connections sleeps most of the time. One that tried again at once
+        # would do so at no time.
+        asleep = 0
+        for _ in range(100):
+            time.sleep(0.02)
+            asleep += is_asleep(it.process.pid)
+        assert asleep > 50, f"it sleeps at {asleep} of 100 looks"
         for page in pages[1:]:
             page.close()
         assert it.state()["value"] == "165"

@@ -12,11 +12,11 @@ from collections.abc import Iterator
 from pathlib import Path
 from typing import Any
 
+import board_pages
 import pytest
 from desk_shared import ROOT, run
 from dmf.desk.project.report import report
 from dmf.desk.project.scenarios import project_of
-from packages import load
 from project_shared import water_project
 from report_page import Page, judge_labels, limits, named_in
 
@@ -60,20 +60,7 @@ def test_labels_are_read_on_paper(tmp_path: Path) -> None:
 
 @pytest.fixture(scope="module")
 def driver() -> Iterator[Any]:
-    webdriver = load("selenium.webdriver")
-    service = load("selenium.webdriver.chrome.service")
-    options: Any = webdriver.ChromeOptions()
-    for word in (
-        "--headless=new",
-        "--no-sandbox",
-        "--disable-gpu",
-        "--disable-dev-shm-usage",
-        "--hide-scrollbars",
-    ):
-        options.add_argument(word)
-    made = webdriver.Chrome(service=service.Service("/usr/bin/chromedriver"), options=options)
-    yield made
-    made.quit()
+    yield from board_pages.browser("--hide-scrollbars")
 
 
 def shown(driver: Any, path: Path, width: int, scheme: str = "light", height: int = 900) -> None:
