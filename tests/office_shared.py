@@ -7,6 +7,7 @@ from collections.abc import Sequence
 from decimal import Decimal
 from typing import Any
 
+from limits import SECONDS
 from office_readings import Arcs
 from packages import load
 from terminals import Terminal
@@ -47,4 +48,4 @@ def at_a_terminal(
         for prompt, answer in zip(prompts, answers):
             assert terminal.wait_for(lambda told: prompt in told), terminal.told()
             terminal.type(answer)
-        return running.wait(timeout=300), terminal.close()
+        return running.wait(timeout=SECONDS), terminal.close()

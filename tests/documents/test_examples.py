@@ -16,11 +16,11 @@ from pathlib import Path
 
 import pytest
 from conftest import BUILT, ROOT
+from limits import SECONDS
 
 # What is written after each example.
 END = "\x1e"
 ROFF = {"\\[aq]": "'", "\\[rs]": "\\", "\\-": "-", "\\fB": "", "\\fP": ""}
-SECONDS = 300
 STORIES = [
     str(page.relative_to(ROOT)) for page in sorted((ROOT / "examples").glob("*/README.md"))
 ] + ["docs/TUTORIAL.md"]

@@ -13,11 +13,11 @@ from random import Random
 
 import pytest
 from conftest import BUILT, ROOT
+from limits import SECONDS
 from make_network import problem_of
 from oracle.problem import problem_text, read_problem
 from random_cases import network
 
-SECONDS = 300
 # Solvers compute in fractions of 15 digits.
 MOST = 10**12
 EXAMPLES = ["a", "b", "n", "town", "levels"]

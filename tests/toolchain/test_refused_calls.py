@@ -20,6 +20,7 @@ from typing import Any
 import pytest
 from commands import CALLS, COMMANDS, variant_of
 from conftest import ROOT, shared
+from limits import SECONDS
 from oracle import changes
 from oracle.network import Arc, State
 from oracle.session import MOST_KEPT, Session, SolveReply
@@ -162,7 +163,7 @@ def run(library: str, at: int, row: int, *words: str) -> tuple[int, list[str], b
         ran = subprocess.run(
             [BUILT, *words],
             capture_output=True,
-            timeout=300,
+            timeout=SECONDS,
             env={**os.environ, "LD_PRELOAD": library, **faults},
         )
         return ran.returncode, ran.stdout.decode().splitlines(), b"memory" in calls.read()
