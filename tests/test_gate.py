@@ -9,8 +9,9 @@ from pathlib import Path
 
 import pytest
 from conftest import ROOT
+from limits import SECONDS
 from nested import run_pytest
-from small_clone import SECONDS, Clone
+from small_clone import Clone
 
 SAID = "2 passed, 0 failed"
 GATE = ".ci/run", "--no-root"
@@ -37,10 +38,20 @@ SKIPPING = (
 )
 
 # A test that fails while a file is there, between two that pass.
-BUSY = (
-    "import pathlib\n\n\ndef test_one() -> None:\n    pass\n\n\ndef test_busy() -> None:\n    assert not "
-    "pathlib.Path({!r}).exists(), 'busy'\n\n\ndef test_two() -> None:\n    pass\n"
-)
+BUSY = """import pathlib
+
+
+def test_one() -> None:
+    pass
+
+
+def test_busy() -> None:
+    assert not pathlib.Path({!r}).exists(), "busy"
+
+
+def test_two() -> None:
+    pass
+"""
 # It runs a test alone as the nested pytest was run, after it has removed that file, or not.
 AGAIN = """import pathlib
 
