@@ -1,3 +1,4 @@
+pub mod Steps
 pub mod Passed
 pub mod PlanGlue
 pub mod HandleGlue
@@ -14,3 +15,4 @@ pub mod Gaining
 pub mod LastMoved
 pub mod Filling
 pub mod Batches
+pub mod Heap

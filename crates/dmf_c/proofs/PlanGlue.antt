@@ -1,28 +1,7 @@
 -- A plan may be dropped.
-use Rattle.std.proofs.Common.{List, [], ◌∷◌, refl}
-use mir.Syntax.{Dict, impl, method, tnil, dnil}
-use mir.Raw.{raw as bare}
-use seplogic.Ra.Ura.{Ura}
-use prog.Model.{Model}
-use prog.Wired.{Wired}
-use types.Logic.{Logic}
-use contract.Running.{Running, tables_of}
-use borrow.Fn.Glue.{glue_by}
-use borrow.Fn.Impl.{via_longer, method_Known}
+use Rattle.dmf_c.proofs.Steps.{List, [], ◌∷◌, refl, Dict, impl, method, tnil, dnil, bare, Ura, Model, Wired, Logic, Running, tables_of, glue_by, via_longer, method_Known, Over, p_owned, no, layout, layouts, arg, param, Laws, arg_laws, param_laws, Mute-seen, RattleType, AllWithin, Ended, Lasts, lasts, at_exit, Args, Res, Fit, World}
 use borrow.Fn.Kinds as kinds
-use borrow.Fn.Run.{Over}
-use borrow.Kind.Owned.{p_owned}
-use denote.Exit.{no}
-use denote.Param.{layout, layouts, arg, param}
 use denote.Param.Glue
-use denote.Param.Laws.{Laws, arg_laws, param_laws}
-use denote.Param.Mute.{Mute-seen}
-use denote.RattleType.{RattleType}
-use denote.Triple.Carry.{AllWithin}
-use denote.Triple.Clauses.{Ended, Lasts, lasts, at_exit}
-use denote.Triple.Entry.{Args, Res}
-use denote.Triple.Walked.{Fit}
-use borrow.Fn.World.{World}
 use Rattle.dmf_c.specs.contracts.plan.Plan.{the_row}
 use Rattle.dmf_c.proofs.plan.Plan.TheLaws.{the_row_laws}
 use Rattle.dmf_c.proofs.dmf_c++plan++Plan+Destruct.drop.Kinds as its_kinds

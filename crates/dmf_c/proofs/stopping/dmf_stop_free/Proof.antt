@@ -1,33 +1,5 @@
 -- `dmf_stop_free` does nothing at NULL, and else frees the stop.
-use Rattle.std.proofs.Common.{List, [], ◌∷◌, refl, ap, lit<, Global}
-use mir.Raw.{raw as bare}
-use mir.Val.{Val, vunit}
-use base.Logic.{ent, via, snd∗, id⊢}
-use base.Fml.{ftrue}
-use prog.Wp.{WpFn}
-use types.Logic.{sem}
-use types.Kit.{done, group, at_ret, ‵, raw, ◌⊛◌, some, later, ◌$◌, ◌∵◌, !, qed, drop, split, join, pick, suffices, use1, await, feq_i, feq_l}
-use types.Run.{of_opd, unit_lit, no_more, and_then, bin, lit, first, branches, skips, exec, returns, returns_within, enter}
-use types.ByLocal.{alloc_all, pass_all, free_all, look_at, get, sets, lands_as, env}
-use contract.Monad.{fact_use}
-use contract.Running.{tables, tables_of}
-use denote.Exit.{yes}
-use denote.Builtin.{RawPtr, unit}
-use denote.Memory.{lone}
-use denote.RawPtr.{Ptr, block_ptr, null_ptr, Testable, tests_null, rawptr_vals, rawptr_Tells}
-use denote.Signature.{plain}
-use denote.Steps.{nothing, only}
-use denote.Triple.Call.{calls_at}
-use denote.Triple.Clauses.{Lasts, lasts}
-use denote.Triple.Entry.{on_entry}
-use denote.Triple.Spec.{triple_of}
-use denote.Triple.Table.{framed}
-use denote.Triple.Walked.{Stays, stay_dropped, walk_of, Goes-dropped, ends_at}
-use Rattle.std.specs.Ptr.{points_to}
-use Rattle.std.proofs.raw_atomic.Walks.{proved}
-use Rattle.std.proofs.GlobalToken.{dealloc_token-Testable}
-use Rattle.std.specs.contracts.impls.GlobalAllocator.TheImpl.{ghosts}
-use Rattle.std.specs.contracts.alloc.Global.{the_row as G}
+use Rattle.dmf_c.proofs.Steps.{List, [], ◌∷◌, refl, ap, lit<, Global, bare, Val, vunit, ent, via, snd∗, id⊢, ftrue, WpFn, sem, done, group, at_ret, ‵, raw, ◌⊛◌, some, later, ◌$◌, ◌∵◌, !, qed, drop, split, join, pick, suffices, use1, await, feq_i, feq_l, of_opd, unit_lit, no_more, and_then, bin, lit, first, branches, skips, exec, returns, returns_within, enter, alloc_all, pass_all, free_all, look_at, get, sets, lands_as, env, fact_use, tables, tables_of, yes, RawPtr, unit, lone, Ptr, block_ptr, null_ptr, Testable, tests_null, rawptr_vals, rawptr_Tells, plain, nothing, only, calls_at, Lasts, lasts, on_entry, triple_of, framed, Stays, stay_dropped, walk_of, Goes-dropped, ends_at, points_to, proved, dealloc_token-Testable, ghosts, G}
 use Rattle.std.proofs.alloc.Global.TheLaws as heap
 use Rattle.dmf_c.specs.Stop.{owns_stop}
 use Rattle.dmf_c.specs.contracts.stop.Stop.{the_row as T}

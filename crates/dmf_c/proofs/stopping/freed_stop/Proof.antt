@@ -1,48 +1,13 @@
 -- `freed_stop` makes the box again, and drops it.
-use Rattle.std.proofs.Common.{◌≡◌, List, [], ◌∷◌, refl, sym, ap, subst, Global}
-use mir.Raw.{raw as bare}
-use mir.Val.{Val, vptr, vunit}
-use base.Fraction.{full_share}
-use base.Logic.{emp, never, fst∗, id⊢}
-use base.Fml.{Lft, ftrue, flft}
-use prog.Wp.{WpFn}
-use types.Logic.{sem}
-use types.Tokens.{lft_new}
-use types.Kit.{done, group, prop, regoal, ‵, raw, ◌⊛◌, some, later, ◌$◌, ◌∵◌, !, qed, move, keep, drop, split, split3, join, fjoin, pick, suffices, use0, use1, await, rewrite, feq_i, feq_l}
-use types.Run.{of_opd, unit_lit, no_more, and_then, returns, enter}
-use types.ByLocal.{alloc_all, pass_all, free_all, look_at, get, sets, lands_as}
-use contract.Monad.{fact, fact_i}
-use contract.BorrowLft.{◌⊑◌, ⊑_static}
-use contract.Running.{tables, tables_of}
-use denote.Exit.{yes}
-use denote.Builtin.{RawPtr, unit}
-use denote.Memory.{lone}
-use denote.Param.NoDrop
-use denote.Param.{layout}
-use denote.RattleType.{RattleType}
-use denote.RawPtr.{Ptr, block_ptr, null_ptr, in_a_block, rawptr_vals, rawptr_Tells}
-use denote.Signature.{plain}
-use denote.Steps.{nothing, only}
-use denote.Triple.Clauses.{Lasts, lasts}
-use denote.Triple.Spec.{triple_of}
-use denote.Triple.Call.{calls_at}
-use denote.Triple.Table.{framed}
-use denote.Triple.Walked.{Stays, stay_dropped, walk_of, Goes-dropped, ends_at}
-use Rattle.std.proofs.cell.Inside.{Good}
+use Rattle.dmf_c.proofs.Steps.{List, [], ◌∷◌, refl, ap, Global, bare, Val, vunit, never, fst∗, id⊢, ftrue, WpFn, sem, done, group, prop, regoal, ‵, raw, ◌⊛◌, some, later, ◌$◌, ◌∵◌, !, qed, move, keep, drop, split, split3, join, fjoin, pick, suffices, use1, await, feq_i, feq_l, of_opd, unit_lit, no_more, and_then, returns, enter, alloc_all, pass_all, free_all, look_at, get, sets, lands_as, ⊑_static, tables, tables_of, yes, RawPtr, unit, lone, RattleType, Ptr, block_ptr, null_ptr, in_a_block, rawptr_vals, rawptr_Tells, plain, nothing, only, Lasts, lasts, triple_of, calls_at, framed, Stays, stay_dropped, walk_of, Goes-dropped, ends_at, proved, ghosts, G}
 use Rattle.std.proofs.BoxSteps.Form as box
-use Rattle.std.proofs.BoxSteps.Steps.{box_out, box_in}
-use Rattle.std.proofs.raw_atomic.Walks.{proved}
-use Rattle.std.specs.contracts.impls.GlobalAllocator.TheImpl.{ghosts, dict}
-use Rattle.std.proofs.impls.GlobalAllocator.TheImpl.Met.{passed}
-use Rattle.std.specs.contracts.alloc.Global.{the_row as G}
 use Rattle.std.proofs.alloc.Global.TheLaws as heap
-use Rattle.std.specs.contracts.boxed.Box.from_raw as callee
-use Rattle.std.proofs.boxed.Box.from_raw.Met.{met}
 use Rattle.dmf_c.specs.Stop.{owns_stop}
 use Rattle.dmf_c.specs.contracts.stop.Stop.{the_row as T}
 use Rattle.dmf_c.specs.contracts.stopping.closed_stop as closing
 use Rattle.dmf_c.proofs.stopping.closed_stop.Met as closing_met
-use Rattle.dmf_c.proofs.Passed.{A, LA, drops, al}
+use Rattle.dmf_c.proofs.Heap.{Heap, boxes}
+use Rattle.dmf_c.proofs.Passed.{al}
 use Rattle.dmf_c.proofs.StopGlue as stops
 use Rattle.dmf_c.proofs.Destruct++none.drop.Code as nothing-dropped
 use Rattle.dmf_c.specs.contracts.stopping.freed_stop as f
@@ -72,27 +37,14 @@ freed_stop_spec {M} 𝓤 𝓛 𝓜 𝓡 wired =
     in_a_block ! a.1.0 (λ p. owns_stop p g) (fst∗ 𝓤 (never 𝓤) (sem 𝓛 (ghosts.dealloc_token g.alloc (bare (lone T.mir)) null_ptr))) (λ b o e.
     regoal ! (λ p. prop (WpFn 𝓤 𝓛.H 𝓣.C 𝓣.Λ fn (gv ∷ rawptr_vals p) (W.post (y p)))) e refl $
     enter ! _ _ _ _ _ $ alloc_all ! (λ l. pass_all ! refl ((tt, ((tt, tt), tt)), ((tt, tt), tt)) $
-    lft_new ! tt (λ α. lft_new ! tt (λ β. let κ : Lft = α ∷ [] in let ν : Lft = β ∷ [] in
-    -- [β's token; α's; the memory; the allocator]
-    nothing ! $ move ! (2 ∷ 0 ∷ []) $ join ! $ move ! (1 ∷ []) $ join ! $
-    use0 𝓛 (raw (fact 𝓤 (κ ⊑ A.lives))) (fact_i 𝓤 (κ ⊑ A.lives) (emp 𝓤) (⊑_static κ)) $ move ! (2 ∷ []) $ move ! (1 ∷ 0 ∷ []) $ join ! $
-    use0 𝓛 (raw (fact 𝓤 (ν ⊑ stops.X.lives))) (fact_i 𝓤 (ν ⊑ stops.X.lives) (emp 𝓤) (⊑_static ν)) $ join ! $
-    -- [what it requires; the tokens; the allocator]
-    nothing ! $ feq_i ! (List Val) (vptr b o ∷ []) (vptr b o ∷ []) refl $ fjoin ! $ move ! (3 ∷ 0 ∷ []) $ fjoin ! $ move ! (2 ∷ 0 ∷ []) $ join ! $ join ! $
-    let k = triple_of 𝓛 (callee.signature stops.X A ghosts dict drops) (callee.spec stops.X A ghosts dict drops 𝓛 𝓜.mem 𝓡.returns) in
-    let z : k.Ghost = (((ν, (κ, tt)), (full_share, (full_share, tt)), tt, (al₀, (block_ptr b o, tt)), (gv ∷ [], (vptr b o ∷ [], tt))), g) in
-    use1 𝓛 (raw (k.pre z)) (id⊢ 𝓤 _) $
-    let allocator = passed 𝓡.env (code.calls-std_heap::GlobalAllocator::allocate 𝓡.env wired) (code.calls-std_heap::GlobalAllocator::deallocate 𝓡.env wired)
-    (code.calls-std_heap::GlobalAllocator::grow 𝓡.env wired) (code.calls-std_heap::GlobalAllocator::shrink 𝓡.env wired) M 𝓤 𝓛 𝓜 𝓡 in
-    let glued = NoDrop.glues "dmf_c::Destruct++none::drop" 𝓡.env (code.calls-dmf_c::Destruct++none::drop 𝓡.env wired) A LA M 𝓤 𝓛 𝓜 𝓡 in
-    let called = callee.ended stops.X A ghosts dict drops in
-    calls_at ! (framed 𝓤 𝓛.H 𝓜 𝓣) k (met 𝓤 𝓛 𝓜 𝓡 (code.calls-std_alloc::boxed::Box::from_raw 𝓡.env wired) stops.X A stops.LX LA ghosts dict drops allocator glued) z
-    (and_then ! (get ! refl) (and_then ! (get ! refl) (no_more !))) (λ u.
-    use1 𝓛 (later (some (λ (r : B.Denot). ((‵ (flft ν full_share) ⊛ ‵ (flft κ full_share) ⊛ ‵ ftrue) ⊛ ‵ (B.own_val r (u ∷ []))) ⊛
-    some (λ (ls : Lasts called z.0.0 z.0.3). ‵ (lasts called z.0.0 z.0.3 ls) ⊛ (raw (fact 𝓤 (r.value ≡ g)) ⊛ raw (fact 𝓤 (r.alloc ≡ al₀))))))) (id⊢ 𝓤 (k.post z u)) $
-    await ! tt $ pick ! (λ r. split ! $ split ! $ drop ! $
-    box_out E ! r (u ∷ []) (λ b' o' h' e' us fits'. box_in E ! r b' o' r.value e' refl $ rewrite ! 0 (λ (xs : List Val). ‵ (B.own_val r xs)) (sym us) refl $
-    let good : Good (layout B) u = subst (Good (layout B)) (sym (ap only us)) (box.box_typed E h' b' o' fits') in
+    let heap : Heap 𝓡.env = record {
+      allocate = code.calls-std_heap::GlobalAllocator::allocate 𝓡.env wired;
+      deallocate = code.calls-std_heap::GlobalAllocator::deallocate 𝓡.env wired;
+      grow = code.calls-std_heap::GlobalAllocator::grow 𝓡.env wired;
+      shrink = code.calls-std_heap::GlobalAllocator::shrink 𝓡.env wired;
+      no_drop = code.calls-dmf_c::Destruct++none::drop 𝓡.env wired;
+    } in
+    boxes 𝓛 𝓜 𝓡 heap stops.X stops.LX ⊑_static ! (code.calls-std_alloc::boxed::Box::from_raw 𝓡.env wired) al₀ gv b o g (λ i. and_then ! (get ! refl) (and_then ! (get ! refl) (no_more !))) (λ u r same good.
     lands_as ! refl refl good $
     -- the box is dropped
     let m = triple_of 𝓛 closing.signature (closing.spec 𝓛 𝓜.mem 𝓡.returns) in
@@ -104,4 +56,4 @@ freed_stop_spec {M} 𝓤 𝓛 𝓜 𝓡 wired =
     await ! tt $ pick ! (λ q. split ! $ split ! $ drop ! $ feq_l ! (λ is_unit. lands_as ! (ap only is_unit) refl (tt, tt) $
     sets ! (of_opd ! (unit_lit !)) refl (tt, tt) $ returns ! (look_at ! 0 refl) $ free_all ! refl $ keep ! [] $
     suffices ! _ (ends_at 𝓛 f.ended stayed c (y (block_ptr b o)) vunit tt (tt, (tt, tt)) (tt, (tt, tt))) $
-    nothing ! $ feq_i ! (List Val) (vunit ∷ []) (vunit ∷ []) refl $ nothing ! $ nothing ! $ join ! $ nothing ! $ join ! $ nothing ! $ group ! 3 $ done !)))))))))))
+    nothing ! $ feq_i ! (List Val) (vunit ∷ []) (vunit ∷ []) refl $ nothing ! $ nothing ! $ join ! $ nothing ! $ join ! $ nothing ! $ group ! 3 $ done !)))))))
