@@ -47,6 +47,9 @@ pub record Heap (γ : Code) : Type 0 where
   pub shrink : Wired γ shrink_symbol.code
   pub no_drop : Wired γ nothing_symbol.code
 
+pub heap_of : {γ : Code} → Wired γ allocate_symbol.code → Wired γ deallocate_symbol.code → Wired γ grow_symbol.code → Wired γ shrink_symbol.code → Wired γ nothing_symbol.code → Heap γ
+heap_of a d g s n = record { allocate = a; deallocate = d; grow = g; shrink = s; no_drop = n }
+
 module _ {M : Type 1} {𝓤 : Ura M} (𝓛 : Logic 𝓤) (𝓜 : Model 𝓤 𝓛.H) (𝓡 : Running 𝓤 𝓛.H 𝓜) (heap : Heap 𝓡.env) (X : RattleType) (LX : Laws X) (outlived : (ν : Lft) → ν ⊑ X.lives) where
   abbrev E : box.Bx
   E = record { row = X; laws = LX; al = al }

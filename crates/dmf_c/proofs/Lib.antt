@@ -1,5 +1,6 @@
 pub mod Steps
 pub mod Passed
+pub mod Heap
 pub mod PlanGlue
 pub mod HandleGlue
 pub mod FlagGlue
@@ -15,4 +16,3 @@ pub mod Gaining
 pub mod LastMoved
 pub mod Filling
 pub mod Batches
-pub mod Heap

@@ -39,7 +39,7 @@ pub use prog.Model.{Model}
 pub use prog.Wired.{Wired}
 pub use denote.Param.{layout, arg, layouts, param}
 pub use denote.Param.Laws.{Laws, arg_laws, param_laws}
-pub use borrow.Fn.Glue.{glue_by}
+pub use borrow.Fn.Glue.{glue_by, glue_ps}
 pub use borrow.Fn.Impl.{via_longer, method_Known}
 pub use borrow.Fn.Run.{Over}
 pub use borrow.Kind.Owned.{p_owned}

@@ -2,7 +2,7 @@
 use Rattle.dmf_c.proofs.Steps.{◌≡◌, List, [], ◌∷◌, ◌++◌, refl, sym, subst, bare, Val, vptr, vstruct, vcons, vnil, of_list, SProp, ent, never, fst∗, id⊢, ftrue, WpFn, sem, done, ‵, ◌⊛◌, at_ret, ◌$◌, ◌∵◌, !, qed, move, keep, drop, split3, join, fsplit, fpick, feq_l, suffices, stop, fld, of_opd, no_more, and_then, first, blocks, exec, returns, enter, alloc_all, pass_all, free_all, look_at, get, get_in, sets, lands_last, env, sub, whole, ⊑_static, after, tables, tables_of, yes, lone, Ptr, null_ptr, ptr_val, in_a_block, plain, nothing, Stays, stay_dropped, walk_of, Goes-dropped, says, ends_at, box_owns, ghosts, proved_at, handle_tells}
 use Rattle.dmf_c.specs.contracts.plan.Plan.{the_row as T}
 use Rattle.std.proofs.BoxSteps.Form as box
-use Rattle.dmf_c.proofs.Heap.{Heap, boxes_last}
+use Rattle.dmf_c.proofs.Heap.{heap_of, boxes_last}
 use Rattle.dmf_c.proofs.Passed.{al}
 use Rattle.dmf_c.proofs.PlanGlue as plan
 use Rattle.dmf_c.proofs.Destruct++none.drop.Code as nothing-dropped
@@ -39,13 +39,8 @@ into_box_spec {M} 𝓤 𝓛 𝓜 𝓡 wired =
     enter ! 𝓣.C 𝓣.Λ fn (w ∷ []) (W.post z) $ alloc_all ! (λ l. pass_all ! refl (typed, tt) $
     sets ! (of_opd ! (get_in ! (fld ! refl (stop !)) (sub ! 0 refl (whole !)))) refl (tt, tt) $ sets ! (of_opd ! (get_in ! (fld ! refl (stop !)) (sub ! 1 refl (whole !)))) refl fits $
     first ! $ blocks ! $ sets ! (of_opd ! (get ! refl)) refl (tt, tt) $
-    let heap : Heap 𝓡.env = record {
-      allocate = code.calls-std_heap::GlobalAllocator::allocate 𝓡.env wired;
-      deallocate = code.calls-std_heap::GlobalAllocator::deallocate 𝓡.env wired;
-      grow = code.calls-std_heap::GlobalAllocator::grow 𝓡.env wired;
-      shrink = code.calls-std_heap::GlobalAllocator::shrink 𝓡.env wired;
-      no_drop = code.calls-dmf_c::Destruct++none::drop 𝓡.env wired;
-    } in
+    let heap = heap_of (code.calls-std_heap::GlobalAllocator::allocate 𝓡.env wired) (code.calls-std_heap::GlobalAllocator::deallocate 𝓡.env wired)
+    (code.calls-std_heap::GlobalAllocator::grow 𝓡.env wired) (code.calls-std_heap::GlobalAllocator::shrink 𝓡.env wired) (code.calls-dmf_c::Destruct++none::drop 𝓡.env wired) in
     boxes_last 𝓛 𝓜 𝓡 heap plan.X plan.LX ⊑_static ! (code.calls-std_alloc::boxed::Box::from_raw 𝓡.env wired) a h b o v.timeline (λ i. and_then ! (get ! refl) (and_then ! (get ! refl) (no_more !))) (λ u r same good.
     lands_last ! refl good $ exec ! 𝓣.C 𝓣.Λ (env fn.locals l) (after 3 fn.body) (at_ret (env fn.locals l) (W.post z)) $ sets ! (of_opd ! (get ! refl)) refl good $
     returns ! (look_at ! 0 refl) $ free_all ! refl $ keep ! (0 ∷ []) $

@@ -4,7 +4,7 @@ use Rattle.std.proofs.BoxSteps.Form as box
 use Rattle.dmf_c.specs.contracts.stop.Stop.{the_type}
 use Rattle.dmf_c.specs.declared.stop.Stop.{Stop}
 use Rattle.dmf_c.specs.contracts.flag.Flag.{the_row as T}
-use Rattle.dmf_c.proofs.Heap.{Heap, takes_apart}
+use Rattle.dmf_c.proofs.Heap.{heap_of, takes_apart}
 use Rattle.dmf_c.proofs.Passed.{al}
 use Rattle.std.specs.contracts.boxed.Box as boxed
 use Rattle.std.specs.contracts.alloc.Global as heap
@@ -39,13 +39,8 @@ of_spec {M} 𝓤 𝓛 𝓜 𝓡 wired =
     let w : Val = box.word E h b o in let typed = box.box_typed E h b o fits in
     suffices ! (Run (w ∷ [])) (subst (λ (us : List Val). ent 𝓤 (Run (w ∷ [])) (Run us)) (sym (λ i. ws i ++ [])) (id⊢ 𝓤 (Run (w ∷ [])))) $
     enter ! 𝓣.C 𝓣.Λ fn (w ∷ []) (W.post z) $ alloc_all ! (λ l. pass_all ! refl (typed, tt) $ sets ! (of_opd ! (get ! refl)) refl typed $
-    let heap : Heap 𝓡.env = record {
-      allocate = code.calls-std_heap::GlobalAllocator::allocate 𝓡.env wired;
-      deallocate = code.calls-std_heap::GlobalAllocator::deallocate 𝓡.env wired;
-      grow = code.calls-std_heap::GlobalAllocator::grow 𝓡.env wired;
-      shrink = code.calls-std_heap::GlobalAllocator::shrink 𝓡.env wired;
-      no_drop = code.calls-dmf_c::Destruct++none::drop 𝓡.env wired;
-    } in
+    let heap = heap_of (code.calls-std_heap::GlobalAllocator::allocate 𝓡.env wired) (code.calls-std_heap::GlobalAllocator::deallocate 𝓡.env wired)
+    (code.calls-std_heap::GlobalAllocator::grow 𝓡.env wired) (code.calls-std_heap::GlobalAllocator::shrink 𝓡.env wired) (code.calls-dmf_c::Destruct++none::drop 𝓡.env wired) in
     takes_apart 𝓛 𝓜 𝓡 heap flag.X flag.LX ⊑_static ! flag.dict (flag.glue 𝓤 𝓛 𝓜 𝓡 (code.calls-dmf_c::dmf_c++flag++Flag+Destruct::drop 𝓡.env wired))
     (code.calls-std_alloc::boxed::Box::into_raw_with_allocator 𝓡.env wired) v w (λ i. and_then ! (get ! refl) (no_more !)) (λ b' o' h' u is fits'.
     let made = box.box_typed E h' b' o' fits' in let hw : Val = box.word E h' b' o' in
