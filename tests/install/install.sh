@@ -68,7 +68,7 @@ ln -s "$root/install" "$work/linked"
 call() {
     local name=$1 wanted=$2 out=$3 err=$4 status
     shift 4
-    (cd "$work" && env -i PATH="$root/bin:/usr/bin:/bin" timeout 60 ./linked "$@") >"$work/out" 2>"$work/told" </dev/null
+    (cd "$work" && env -i PATH="$root/bin:/usr/bin:/bin" timeout 300 ./linked "$@") >"$work/out" 2>"$work/told" </dev/null
     status=$?
     sed 's/, after [0-9]* s$//' "$work/told" >"$work/err"
     judge "$name" "$status" "$wanted" "$out" "$err"

@@ -15,6 +15,7 @@ import random_scripts
 from dmf.text.problem_text import read_problem
 from dmf.text.session_replies import CutReply, SolutionReply, TranscriptFault
 from dmf.text.transcript import TranscriptReader
+from limits import SECONDS
 from oracle import problem as oracle_problem
 from oracle import session, texts
 from oracle.network import State, smallest_side
@@ -102,7 +103,7 @@ def ran(
         cwd=folder,
         input=replies,
         capture_output=True,
-        timeout=60,
+        timeout=SECONDS,
     )
 
 
