@@ -20,7 +20,7 @@ import built
 import pytest
 from _pytest.terminal import TerminalReporter
 from failures import failed_reports, reason, run_again
-from hypothesis import settings
+from hypothesis import HealthCheck, settings
 from hypothesis.database import DirectoryBasedExampleDatabase
 from kept import FOUND_FILE, shown_cases, with_cases
 from nested import run_pytest
@@ -55,17 +55,19 @@ def pytest_addoption(parser: pytest.Parser) -> None:
 
 def set_drawn(config: pytest.Config) -> None:
     """Sets which cases hypothesis draws: the same ones each time in the gate, and others each time
-    by hand."""
+    by hand. How long that takes is judged by nobody."""
+    settings.register_profile(
+        "untimed", deadline=None, suppress_health_check=[HealthCheck.too_slow], print_blob=True
+    )
+    untimed = settings.get_profile("untimed")
     if config.getoption("--long") or config.getoption("--cases"):
         cases = int(config.getoption("--cases"))
         count = -(-cases // CASES_A_DRAWN) or LONG_DRAWN
         database = DirectoryBasedExampleDatabase(str(ROOT / ".hypothesis"))
-        settings.register_profile(
-            "chosen", max_examples=count, database=database, deadline=None, print_blob=True
-        )
+        settings.register_profile("chosen", untimed, max_examples=count, database=database)
     else:
         settings.register_profile(
-            "chosen", max_examples=GATE_DRAWN, derandomize=True, database=None, deadline=None
+            "chosen", untimed, max_examples=GATE_DRAWN, derandomize=True, database=None
         )
     settings.load_profile("chosen")
 

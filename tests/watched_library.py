@@ -17,6 +17,7 @@ from built import heed_interrupts
 from c_library import library_file
 from client_shared import environment
 from dmf.session import library as loaded
+from dmf.session import worker_threads
 from limits import SECONDS
 
 # A network large enough that its calls run beside, whose solve takes a second on an idle processor:
@@ -95,6 +96,39 @@ def slow_call(
             patched.setattr(calls, "stop_raise", noted)
         yield begun, until
         until.set()
+
+
+@contextlib.contextmanager
+def ctrl_c_in_a_solve(is_begun: bool) -> Iterator[None]:
+    """A block in which Ctrl-C comes once the library works on a solve, or just before that. The
+    solve runs in another thread, however small the network is."""
+    calls: Any = loaded.load(library_file())
+    begun, raised = threading.Event(), threading.Event()
+    solve_until, put_up, threads = calls.solve_until, calls.stop_raise, worker_threads.threads
+
+    def until_raised(*words: int) -> int:
+        begun.set()
+        raised.wait(SECONDS)
+        return int(solve_until(*words))
+
+    def noted(stop: int) -> None:
+        put_up(stop)
+        raised.set()
+
+    class Interrupted:
+        def begin(self, job: worker_threads.Job[Any]) -> None:
+            if is_begun:
+                threads().begin(job)
+                begun.wait(SECONDS)
+            raise KeyboardInterrupt
+
+    with pytest.MonkeyPatch.context() as patched:
+        patched.setattr(loaded, "MOST_AT_ONCE", -1)
+        patched.setattr(calls, "solve_until", until_raised)
+        patched.setattr(calls, "stop_raise", noted)
+        patched.setattr(worker_threads, "threads", Interrupted)
+        yield
+    assert begun.is_set() == is_begun
 
 
 @contextlib.contextmanager

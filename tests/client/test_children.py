@@ -8,6 +8,7 @@ from collections.abc import Callable
 
 import pytest
 from client_shared import CLIENT, answering, dmf, pipes, script
+from limits import SECONDS
 
 
 def ended(answer: str) -> str:
@@ -64,7 +65,7 @@ def test_much_on_standard_error() -> None:
 
     thread = threading.Thread(target=run, daemon=True)
     thread.start()
-    thread.join(20)
+    thread.join(SECONDS)
     assert values == [7, 7, 7]
     # Of what was told, the first 65,536 bytes are shown.
     assert ended(f"{much}; exit 1") == f"dmf ended with status 1: {'x' * 65536}"
@@ -99,5 +100,5 @@ def test_closed_streams(closing: str) -> None:
         sys.executable,
         code,
     ]
-    ran = subprocess.run(words, stdout=subprocess.PIPE, text=True, timeout=60)
+    ran = subprocess.run(words, stdout=subprocess.PIPE, text=True, timeout=SECONDS)
     assert (ran.returncode, ran.stdout) == (0, "3 3\n")

@@ -12,6 +12,7 @@ from typing import Any
 
 import pytest
 from client_shared import CLIENT, dmf, written
+from limits import SECONDS
 
 TEXT = b"c node 1 lake\nc node 2 sea\nc arc 1 the canal\np max 2 1\nn 1 s\nn 2 t\na 1 2 7\n"
 
@@ -105,7 +106,7 @@ def test_standard_input() -> None:
         for given in cases:
             words = [sys.executable, "-c", script]
             ran = subprocess.run(
-                words, env=environment, capture_output=True, text=True, timeout=20, **given
+                words, env=environment, capture_output=True, text=True, timeout=SECONDS, **given
             )
             assert (ran.stdout, ran.stderr) == ("7 ['lake', 'sea']\n", "")
 

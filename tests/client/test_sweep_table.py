@@ -8,17 +8,15 @@ import fcntl
 import os
 import signal
 import subprocess
-import sys
 from collections.abc import Iterator
 from contextlib import contextmanager
 from pathlib import Path
 
 import pytest
 from built import heed_interrupts
-from client_shared import ROOT
 from limits import SECONDS
+from stopped_sweeps import STOPPING, command, wait_until_stopped
 
-TOOL = [sys.executable, f"{ROOT}/tools/dmf-sweep"]
 INTO_TABLE = ["net.max", "--close-each", "--jobs", "1", "--table", "table.csv"]
 ARCS = 700
 ROOMS = [number % 7 + 1 for number in range(ARCS)]
@@ -31,15 +29,6 @@ def folder(tmp_path: Path, monkeypatch: pytest.MonkeyPatch) -> Path:
     lines = "".join(f"a 1 2 {room}\n" for room in ROOMS)
     (tmp_path / "net.max").write_text(f"p max 2 {ARCS}\nn 1 s\nn 2 t\n{lines}")
     return tmp_path
-
-
-def command(*words: str, before: str = "") -> list[str]:
-    """The words that run the tool, or a script that carries it out after something else."""
-    script = (
-        f"import sys, runpy\n{before}\nsys.argv[1:2] = []\nrunpy.run_path({TOOL[1]!r}, "
-        "run_name='__main__')"
-    )
-    return [*([sys.executable, "-c", script, "dmf-sweep"] if before else TOOL), *words]
 
 
 def run_tool(*words: str, before: str = "") -> subprocess.CompletedProcess[str]:
@@ -58,23 +47,6 @@ def judge_table() -> None:
     ]
 
 
-# It stops when it has written some lines of the table.
-STOPPING = """
-import os, signal
-write = os.write
-count = 0
-def written(file, data):
-    global count
-    size = write(file, data)
-    if os.readlink(f"/proc/self/fd/{file}").endswith("table.csv"):
-        count += 1
-        if count == 9:
-            os.kill(os.getpid(), signal.SIGSTOP)
-    return size
-os.write = written
-"""
-
-
 @contextmanager
 def begun() -> Iterator[subprocess.Popen[str]]:
     """A sweep that has tried some cases, and waits as long as the block takes."""
@@ -82,8 +54,7 @@ def begun() -> Iterator[subprocess.Popen[str]]:
     with subprocess.Popen(
         words, stderr=subprocess.PIPE, text=True, preexec_fn=heed_interrupts
     ) as process:
-        how = os.waitid(os.P_PID, process.pid, os.WSTOPPED | os.WEXITED | os.WNOWAIT)
-        assert how and how.si_code == os.CLD_STOPPED
+        wait_until_stopped(process)
         try:
             yield process
         finally:

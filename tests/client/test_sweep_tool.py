@@ -9,13 +9,14 @@ import os
 import signal
 import subprocess
 import sys
-import time
 from collections.abc import Iterator
 from pathlib import Path
 
 import pytest
 from built import heed_interrupts
 from client_shared import ROOT, is_running
+from limits import SECONDS
+from stopped_sweeps import STOPPING, command, wait_until_stopped
 from tool_runs import Tools
 
 # The pipes of the other tests, whose greatest value is 5.
@@ -50,7 +51,7 @@ def folder(tmp_path: Path, monkeypatch: pytest.MonkeyPatch) -> Path:
 
 def run_tool(*words: str) -> subprocess.CompletedProcess[str]:
     command = [sys.executable, f"{ROOT}/tools/dmf-sweep", "net.max", *words]
-    return subprocess.run(command, capture_output=True, text=True, timeout=60)
+    return subprocess.run(command, capture_output=True, text=True, timeout=SECONDS)
 
 
 def rows(*words: str) -> list[list[str]]:
@@ -193,7 +194,7 @@ def test_odd_names_in_a_table(tools: Tools) -> None:
         ran = subprocess.run(
             [sys.executable, f"{ROOT}/tools/dmf-sweep", "net.max", "--close-each"],
             capture_output=True,
-            timeout=60,
+            timeout=SECONDS,
         )
         assert list(csv.reader(io.StringIO(ran.stdout.decode(), newline="")))[1:] == wanted
     Path("table.csv").write_text("case,commands\rname\n", newline="")
@@ -244,35 +245,22 @@ def test_an_interrupt() -> None:
     wanted = large()
     # Each case is tried; --close-each would answer them together.
     Path("cases.txt").write_text("".join(f"{row[1]}\n" for row in wanted))
-    command = [
-        sys.executable,
-        f"{ROOT}/tools/dmf-sweep",
-        "net.max",
-        "--cases",
-        "cases.txt",
-        "--table",
-        "table.csv",
-        "--jobs",
-        "2",
-    ]
-    table = Path("table.csv")
-    with subprocess.Popen(command, stderr=subprocess.PIPE, preexec_fn=heed_interrupts) as process:
-        deadline = time.monotonic() + 60
-        while (
-            not (table.exists() and table.read_bytes().count(b"\n") > 20)
-            and time.monotonic() < deadline
-        ):
-            time.sleep(0.01)
+    words = "net.max --cases cases.txt --table table.csv --jobs 2".split()
+    begun = command(*words, before=STOPPING)
+    with subprocess.Popen(begun, stderr=subprocess.PIPE, preexec_fn=heed_interrupts) as process:
+        wait_until_stopped(process)
         programs = programs_of(process.pid)
         process.send_signal(signal.SIGINT)
-        told = process.communicate(timeout=60)[1]
+        process.send_signal(signal.SIGCONT)
+        told = process.communicate(timeout=SECONDS)[1]
     # The network's own, and one or two copies: the second begins once the first runs, and only if
     # enough cases are left.
     assert (process.returncode, told) == (130, b"") and len(programs) in (2, 3)
     assert not [program for program in programs if is_running(program)]
+    table = Path("table.csv")
     text = table.read_text()
     rows = kept_rows(text)
-    assert text.endswith("\n") and 20 <= len(rows) < len(wanted) and rows == wanted[: len(rows)]
+    assert text.endswith("\n") and 0 < len(rows) < len(wanted) and rows == wanted[: len(rows)]
     assert run_tool("--close-each", "--table", "table.csv").returncode == 0
     assert kept_rows(table.read_text()) == wanted
 
@@ -294,7 +282,7 @@ def test_a_bar() -> None:
     """On a terminal the bar tells how many cases were tried of how many; else nothing is told."""
     ours, theirs = os.openpty()
     command = [sys.executable, f"{ROOT}/tools/dmf-sweep", "net.max", "--close-each"]
-    ran = subprocess.run(command, stdout=subprocess.PIPE, stderr=theirs, text=True, timeout=60)
+    ran = subprocess.run(command, stdout=subprocess.PIPE, stderr=theirs, text=True, timeout=SECONDS)
     os.close(theirs)
     seen = "".join(pieces(ours))
     os.close(ours)

@@ -16,6 +16,7 @@ from dmf.session.process import ProgramSession
 from dmf.sweeps.copies import SolvedCopy
 from dmf.sweeps.pool import LocalPool
 from dmf.text.lexical import LARGEST, MOST_NODES
+from limits import SECONDS
 
 ARCS = 24
 CLOSED: list[Any] = [[("close", number)] for number in range(1, ARCS + 1)]
@@ -42,10 +43,12 @@ def swept(network: dmf.Network[str], cases: Any) -> list[Any]:
 
 
 def test_how_much_is_sent_at_once() -> None:
-    """The program gets the cases of a piece before it has answered the first: what it has been sent
-    by then holds all of them."""
+    """The program gets the cases of a piece before it has answered the first: its answer waits, but
+    not for ever, until it has been sent all of them."""
+    are_sent = '[ "$(grep -c ^close "$0.sent")" -ge 16 ]'
+    wait = f"until {are_sent} || [ $((tries += 1)) -gt {20 * SECONDS} ]; do sleep 0.05; done"
     late = (
-        f'{BUILT} "$@" | while read line; do case "$line" in "c close"*) sleep 0.05; cp "$0.sent" '
+        f'{BUILT} "$@" | while read line; do case "$line" in "c close"*) {wait}; cp "$0.sent" '
         '"$0.$((count += 1))";; esac; echo "$line"; done'
     )
     with script(f'tee -a "$0.sent" | {late}') as program, beside(program) as network:

@@ -59,7 +59,8 @@ def calls(capacity: Any) -> dict[str, Callable[[], object]]:
     [
         (1.5, DECIMALS),
         (-1, ""),
-        (-1.5, DECIMALS),
+        # No scale makes it a capacity.
+        (-1.5, ""),
         ("3", ""),
         (Decimal("0.1"), DECIMALS),
         (Fraction(1, 3), DECIMALS),
@@ -75,7 +76,7 @@ def test_each_call(capacity: Any, hint: str) -> None:
 
 def test_arrays_and_matrices() -> None:
     ends = numpy.array([0]), numpy.array([1])
-    for capacity, hint in (1.5, DECIMALS), (-1.0, ""), (-1, ""), (float("nan"), ""):
+    for capacity, hint in (1.5, DECIMALS), (-1.5, ""), (-1, ""), (float("nan"), ""):
         said = re.escape(f"not a number: {capacity} in (0, 1, {capacity}): {EXPECTED}{hint}") + "$"
         with pytest.raises(dmf.NotANumber, match=said):
             dmf.Network.from_arrays(*ends, numpy.array([capacity]), source=0, sink=1)

@@ -30,7 +30,8 @@ BUILT = "".join(
     for place, crate in enumerate(["low", "left", "right", "dmf"], 1)
 )
 CRATES = "# Crates.\nlow:\nleft: low\nright: low\ndmf: left right\nabove: dmf\n"
-# A rt that builds a crate over those that it stands on, and writes down when it begins and ends.
+# A rt that builds a crate over those that it stands on, and writes down when it begins and ends. A
+# file holds the crate left, and right ends after left.
 WORKING = r"""#!/bin/sh
 crate=${PWD##*/}
 [ "$crate $1" = "dmf run" ] || [ "$1" = lib ] || exit 1
@@ -40,9 +41,8 @@ done
 [ ! -e out/rlib/stamp ] || exit 0
 echo "begin $crate" >>"$LOG"
 case $crate in
-left) sleep 0.8 ;;
-right) sleep 1.6 ;;
-*) sleep 0.2 ;;
+left) while [ -e "$LOG.hold" ]; do sleep 0.05; done ;;
+right) until grep -q "end left" "$LOG"; do sleep 0.05; done; sleep 1 ;;
 esac
 mkdir -p out/rlib
 touch out/rlib/stamp
@@ -79,7 +79,7 @@ class Clone:
     """A folder with the script, some crates, and a stand-in for rt."""
 
     def __init__(self, root: Path, stand_in: str) -> None:
-        self.root, self.log = root, root / "log"
+        self.root, self.log, self.hold = root, root / "log", root / "log.hold"
         for crate in "low", "left", "right", "spare", "dmf", "above", "test_low":
             (root / "crates" / crate / "src").mkdir(parents=True)
         for folder in "bin", "tools", "examples":
@@ -122,6 +122,13 @@ class Clone:
 
     def logged(self) -> list[str]:
         return self.log.read_text().splitlines()
+
+    def wait_for(self, line: str) -> None:
+        """Wait until a line is in the log."""
+        until = time.monotonic() + SECONDS
+        while line not in self.logged():
+            assert time.monotonic() < until, f"{line} is not in the log"
+            time.sleep(0.02)
 
 
 @pytest.fixture
@@ -187,10 +194,9 @@ def test_one_processor(clone: Clone) -> None:
 def test_interrupt(clone: Clone) -> None:
     """An interrupt, once the second crate has begun, ends all that was begun, and leaves nothing
     half made. The next call goes on."""
+    clone.hold.touch()
     builder = clone.begin("solve")
-    until = time.monotonic() + SECONDS
-    while "begin left" not in clone.logged() and time.monotonic() < until:
-        time.sleep(0.02)
+    clone.wait_for("begin left")
     os.killpg(builder.pid, signal.SIGINT)
     out, err = builder.communicate(timeout=SECONDS)
     # A shell tells both as 130.
@@ -199,6 +205,7 @@ def test_interrupt(clone: Clone) -> None:
         err.splitlines()[-1]
         == "dmf: interrupted; the next call goes on with the crates that are missing."
     )
+    clone.hold.unlink()
     time.sleep(0.5)
     assert (
         not (clone.root / "crates/left/out").exists()
@@ -215,11 +222,15 @@ def test_interrupt(clone: Clone) -> None:
 @pytest.mark.seconds(4)
 def test_two_calls(clone: Clone) -> None:
     """Of two calls at once one builds, and the other waits."""
-    calls = [clone.begin("one"), clone.begin("two")]
-    ended = [(*call.communicate(timeout=SECONDS), call.returncode) for call in calls]
-    assert [(out, status) for out, _, status in ended] == [("ran one\n", 0), ("ran two\n", 0)]
+    clone.hold.touch()
+    first = clone.begin("one")
+    clone.wait_for("begin left")
+    second = clone.begin("two")
+    assert second.stderr and any("this one waits for it" in line for line in second.stderr)
+    clone.hold.unlink()
+    ended = [(call.communicate(timeout=SECONDS)[0], call.returncode) for call in (first, second)]
+    assert ended == [("ran one\n", 0), ("ran two\n", 0)]
     assert sum("begin" in line for line in clone.logged()) == 4
-    assert any("this one waits for it" in err for _, err, _ in ended)
 
 
 @pytest.mark.seconds(1)

@@ -1,14 +1,16 @@
 /* One thread ends the solve of another, by a flag that each holds by a stop of its own. Its arguments are a file with a problem
- * text, which takes some seconds to solve, and after how many milliseconds the flag is raised. Prints what the solve answered,
- * and how many microseconds after the raise. */
+ * text, which takes some seconds to solve, and after how many milliseconds the flag is raised, or `after` for a raise once it is
+ * solved. Prints what the solve answered, and how many microseconds of processor time it took after the raise. */
 #define _POSIX_C_SOURCE 200809L
 #include <dmf.h>
 #include <pthread.h>
 #include <stdio.h>
 #include <stdlib.h>
+#include <string.h>
 #include <time.h>
 
 static struct timespec raised;
+static clockid_t solving;
 
 static void fail(const char *what)
 {
@@ -26,7 +28,7 @@ static void *raise_later(void *given)
     struct later *later = given;
     struct timespec pause = {later->milliseconds / 1000, later->milliseconds % 1000 * 1000000};
     nanosleep(&pause, NULL);
-    clock_gettime(CLOCK_MONOTONIC, &raised);
+    clock_gettime(solving, &raised);
     dmf_stop_raise(later->stop);
     dmf_stop_free(later->stop);
     return NULL;
@@ -53,16 +55,22 @@ int main(int count, char **words)
     pthread_t thread;
     struct timespec ended;
     enum dmf_status answer;
+    int is_after;
     if (count != 3)
-        fail("usage: stops PROBLEM MILLISECONDS");
+        fail("usage: stops PROBLEM MILLISECONDS|after");
     session = opened(words[1]);
     if (dmf_stop_new(&stop) != DMF_OK || dmf_stop_share(stop, &later.stop) != DMF_OK)
         fail("no stop");
-    later.milliseconds = atol(words[2]);
-    if (pthread_create(&thread, NULL, raise_later, &later) != 0)
+    is_after = strcmp(words[2], "after") == 0;
+    later.milliseconds = is_after ? 0 : atol(words[2]);
+    if (pthread_getcpuclockid(pthread_self(), &solving) != 0)
+        fail("no clock");
+    if (!is_after && pthread_create(&thread, NULL, raise_later, &later) != 0)
         fail("no thread");
     answer = dmf_session_solve_until(session, stop);
-    clock_gettime(CLOCK_MONOTONIC, &ended);
+    clock_gettime(solving, &ended);
+    if (is_after && pthread_create(&thread, NULL, raise_later, &later) != 0)
+        fail("no thread");
     if (pthread_join(thread, NULL) != 0)
         fail("no thread");
     if (answer == DMF_STOPPED && (dmf_session_value(session) != 0 || dmf_session_past(session) != 0))

@@ -9,6 +9,7 @@ from pathlib import Path
 
 import pytest
 from c_library import ROOT, compiled, header_calls, library_folder
+from limits import SECONDS
 
 EXAMPLES = ROOT / "examples/c"
 SOLVED = (
@@ -23,7 +24,7 @@ def folder() -> Path:
 
 
 def output_of(*words: str | Path) -> str:
-    ran = subprocess.run(words, capture_output=True, text=True, timeout=100)
+    ran = subprocess.run(words, capture_output=True, text=True, timeout=SECONDS)
     assert (ran.returncode, ran.stderr) == (0, "")
     return ran.stdout
 
@@ -65,7 +66,7 @@ def test_a_session_for_each_thread(folder: Path, tmp_path: Path) -> None:
     program = compiled(["gcc", "-pthread"], source, folder, tmp_path)
     assert output_of(*HELGRIND, program) == "4\n"
     program = compiled(["gcc", "-pthread", "-DSHARED"], source, folder, tmp_path)
-    ran = subprocess.run([*HELGRIND, program], capture_output=True, text=True, timeout=100)
+    ran = subprocess.run([*HELGRIND, program], capture_output=True, text=True, timeout=SECONDS)
     assert ran.returncode != 0 and "Possible data race" in ran.stderr
     assert "round_is_right" in ran.stderr
 

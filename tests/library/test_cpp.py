@@ -17,6 +17,7 @@ import pytest
 import scipy.sparse
 from c_library import HEADER, ROOT, compiled, header_calls, library_folder
 from dmf.session.statuses import FAULTS, REASONS
+from limits import SECONDS
 from make_network import problem_of
 from oracle import changes
 from oracle.problem import read_problem
@@ -39,7 +40,7 @@ def run(
         stdin=subprocess.DEVNULL,
         capture_output=True,
         text=True,
-        timeout=100,
+        timeout=SECONDS,
     )
 
 
@@ -102,9 +103,10 @@ def neighbours(problem: Path, closed: int) -> Iterator[str]:
             yield f"arc {number} from {arc.tail} to {arc.head}: {carried}\n"
 
 
-# A problem whose solve takes a second, and how long the example may take for it, in seconds: the
-# timer then stops it, or never does.
-LONG, SOON, LATE = (150, 150, 3, 1_000_000, 1990), "0.05", "1000"
+# A problem whose solve takes a fifth of a second or more, and how long the example may take for it,
+# in seconds: the timer then stops it, or never does. On a busy machine the timer may come too late,
+# so it is tried a few times.
+LONG, SOON, LATE, TRIES = (150, 150, 3, 1_000_000, 1990), "0.01", "1000", 9
 
 
 def judge_example(program: Path, paths: Mapping[str, str] = MappingProxyType({})) -> None:
@@ -133,7 +135,11 @@ def judge_timer(program: Path, folder: Path) -> None:
     value = scipy.sparse.csgraph.maximum_flow(matrix, *ends).flow_value
     told = ran(program, problem, LATE)
     assert told.startswith(f"maximum flow: {value}\nwithout arc ")
-    assert ran(program, problem, SOON) == f"stopped, and as before: 0 of {value}\n{told}"
+    stopped = f"stopped, and as before: 0 of {value}\n{told}"
+    tries = [ran(program, problem, SOON)]
+    while tries[-1] != stopped and len(tries) < TRIES:
+        tries.append(ran(program, problem, SOON))
+    assert tries[-1] == stopped and {*tries[:-1]} <= {told}
 
 
 def build(source: Path, folder: Path, *words: str) -> None:

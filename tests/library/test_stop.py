@@ -11,6 +11,7 @@ from threading import Timer
 import pytest
 from c_library import ROOT, Library, compiled, library_folder
 from c_stops import OK, STOPPED, Stop
+from limits import SECONDS
 from make_network import problem_of
 
 
@@ -81,20 +82,21 @@ def test_the_last_stop_may_be_freed_first_or_last(library: Library) -> None:
 def test_a_solve_is_ended_while_it_runs(
     library: Library, stop: Stop, shared: Stop, long_problem: bytes
 ) -> None:
-    """The session is as it was, and the next solve finds what a plain one finds."""
+    """The session is as it was, and the next solve finds what a plain one finds, in more than twice
+    the processor time."""
     with library.read(long_problem) as session, library.read(long_problem) as plain:
         before = session.state()
-        begun = time.monotonic()
-        timer = Timer(0.5, shared.set, ["raise"])
+        begun = time.thread_time()
+        timer = Timer(0.1, shared.set, ["raise"])
         timer.start()
         assert stop.solve(session) == STOPPED
-        stopped = time.monotonic() - begun
+        stopped = time.thread_time() - begun
         timer.join()
         assert session.state() == before
         stop.set("clear")
-        begun = time.monotonic()
+        begun = time.thread_time()
         assert stop.solve(session) == OK
-        assert stopped < (time.monotonic() - begun) / 2, "the solve is too short for this test"
+        assert stopped < (time.thread_time() - begun) / 2
         plain.step("solve")
         assert session.array("flows") == plain.array("flows")
         assert [session.number("past"), session.number("value")] == [1, plain.number("value")]
@@ -102,13 +104,14 @@ def test_a_solve_is_ended_while_it_runs(
 
 @pytest.mark.parametrize("milliseconds", [0, 300])
 def test_two_threads_in_c(tmp_path: Path, long_problem: bytes, milliseconds: int) -> None:
-    """The solve ends soon after the flag is raised; the program looks at the session."""
+    """After the flag is raised the solve takes less than a second of processor time, of four; the
+    program looks at the session."""
     problem = tmp_path / "problem.max"
     problem.write_bytes(long_problem)
     source = Path(__file__).with_name("stops.c")
     program = compiled(["gcc", "-std=c11", "-pthread"], source, library_folder(), tmp_path)
     ran = subprocess.run(
-        [program, problem, str(milliseconds)], capture_output=True, text=True, timeout=100
+        [program, problem, str(milliseconds)], capture_output=True, text=True, timeout=SECONDS
     )
     assert (ran.returncode, ran.stderr) == (0, "")
     word, microseconds = ran.stdout.split()
@@ -127,10 +130,10 @@ def test_all_is_freed(tmp_path: Path) -> None:
         [
             *("valgrind", "-q", "--error-exitcode=9", "--leak-check=full"),
             "--show-leak-kinds=all",
-            *(program, ROOT / "examples/a.max", "1000"),
+            *(program, ROOT / "examples/a.max", "after"),
         ],
         capture_output=True,
         text=True,
-        timeout=100,
+        timeout=SECONDS,
     )
     assert (ran.returncode, ran.stderr) == (0, "") and ran.stdout.startswith("no error ")

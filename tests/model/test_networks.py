@@ -1,10 +1,11 @@
 """Networks by the library and by the program, driven by the same random acts as the model: changes,
-undo and redo with a bounded history, trials in trials, copies, and sessions that end and begin
-again."""
+undo and redo with a bounded history, trials in trials, copies, sessions that end and begin again,
+and solves that Ctrl-C ends."""
 
 from __future__ import annotations
 
-from contextlib import AbstractContextManager
+import contextlib
+from copy import deepcopy
 from random import Random
 from typing import Any
 
@@ -12,15 +13,19 @@ import dmf
 import pytest
 from c_library import library_file
 from client_shared import BUILT
+from dmf.session import library
 from model.whole_states import UNBOUNDED, NetworkModel, Whole
 from oracle.network import State
 from oracle.texts import LARGEST, Fault
 from random_cases import fitting
 from random_cases import network as random_network
+from watched_library import ctrl_c_in_a_solve
 
 # How many acts a session has, and how many all of them have in the gate and by --long.
 ACTS, GATE, LONG, BATCHES = 50, 3_000, 100_000, 10
 HISTORIES = None, None, 0, 1, 2, 3, 5
+# How many arcs a network has at most whose calls do not run in another thread: all do, or none.
+AT_ONCE = -1, 20_000
 WORDS = (
     "solve",
     "solve",
@@ -39,6 +44,7 @@ WORDS = (
     "end",
     "copy",
     "again",
+    "stop",
 )
 
 
@@ -56,7 +62,7 @@ class Player:
             program=program,
             history=history,
         )
-        self._blocks: list[AbstractContextManager[Any]] = []
+        self._blocks: list[contextlib.AbstractContextManager[Any]] = []
 
     def _arc(self, number: int) -> dmf.Arc[str]:
         return self.network._kept.handle(number)
@@ -86,6 +92,15 @@ class Player:
     def again(self) -> None:
         self.network._session.kill("the session was ended by a test")
         self.network.begin_again()
+
+    def stop(self, is_begun: bool) -> None:
+        """Break a solve of the library off, after which the session goes on."""
+        session = self.network._session
+        if isinstance(session, library.LibrarySession):
+            with pytest.raises(KeyboardInterrupt), ctrl_c_in_a_solve(is_begun):
+                self.network.solve()
+            self.told()
+            assert self.network._session is session
 
     def told(self) -> tuple[object, ...]:
         """Return all that the network tells of its present state, by numbers."""
@@ -157,6 +172,14 @@ def act(random: Random, model: NetworkModel, players: list[Player]) -> None:
         if not model.floors:
             return
         model.end_trial()
+    if word == "stop":
+        is_begun = random.random() < 0.5
+        # A solve that is refused does not begin.
+        with contextlib.suppress(Fault):
+            deepcopy(model).change("solve")
+            for player in players:
+                player.stop(is_begun)
+        return
     if word in ("begin", "end", "copy", "again"):
         for player in players:
             getattr(player, word)()
@@ -186,6 +209,7 @@ def test_lockstep(
     count = (LONG if request.config.getoption("--long") else GATE) // ACTS // BATCHES
     for session in range(count):
         random = Random(f"model {batch} {session}")
+        monkeypatch.setattr(library, "MOST_AT_ONCE", random.choice(AT_ONCE))
         state = random_network(random, 12)
         state = state if state.capacity_sum() <= LARGEST else fitting(state)
         history = random.choice(HISTORIES)

@@ -110,22 +110,19 @@ def test_while_programs_end(tmp_path: Path, count: int) -> None:
     # It prints its version at once.
     program.write_text(
         f'#!/bin/sh\n"{BUILT}" "$@"\n[ "$1" != --version ] || exit 0\ntouch "$0.$$"\nexec sleep '
-        "30\n"
+        "3000\n"
     )
     program.chmod(0o700)
     with begun(
         "dmf-sweep", ["net.max", "--close-each", "--jobs", "1"], DMF=str(program)
     ) as process:
-        deadline = time.monotonic() + SECONDS
-        while not [*tmp_path.glob("slow.*")] and time.monotonic() < deadline:
+        while not [*tmp_path.glob("slow.*")] and process.poll() is None:
             time.sleep(0.01)
         for _ in range(count):
             time.sleep(0.1)
             process.send_signal(signal.SIGINT)
-        began = time.monotonic()
         out, err = process.communicate(timeout=SECONDS)
         assert (process.returncode, err) == (130, b"")
-        assert time.monotonic() - began < 20
     assert out.startswith(b"case,commands,")
     for path in tmp_path.glob("slow.*"):
         with_end = int(path.suffix[1:])

@@ -50,17 +50,17 @@ def whole(number: Any, at: object, what: str = "a capacity") -> int:
     expected = f"{shown_value(at)}: {what} is a whole number from 0 to 2^64 - 1"
     if taken > LARGEST:
         raise NumberTooLarge(f"one of {taken.bit_length()} bits in {expected}")
-    hint = DECIMALS if _has_fraction(number) else ""
+    hint = DECIMALS if _can_be_scaled(number) else ""
     raise NotANumber(f"{shown_value(number)} in {expected}{hint}")
 
 
-def _has_fraction(number: Any) -> bool:
-    """Return True for a number that is not whole: a float, a Decimal or a Fraction."""
+def _can_be_scaled(number: Any) -> bool:
+    """Return True for a float, a Decimal or a Fraction above 0 that is not whole."""
     try:
         nearest = float(number)
     except (OverflowError, TypeError, ValueError):
         return False
-    return math.isfinite(nearest) and nearest % 1 > 0
+    return 0 < nearest < math.inf and nearest % 1 > 0
 
 
 def columns_of(rows: Iterable[Any], nodes: Iterable[Node]) -> tuple[Columns[Node], array[int]]:
