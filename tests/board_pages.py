@@ -3,6 +3,7 @@
 from __future__ import annotations
 
 import contextlib
+import json
 import time
 from collections.abc import Callable, Iterator
 from typing import Any
@@ -11,7 +12,7 @@ from typing import Any
 OTHER_NAME = "board.example"
 # How long the page is waited for, in seconds, and how long one script may run: less than the two
 # minutes for which selenium waits for an answer of the browser.
-SECONDS, SCRIPT_SECONDS = 120, 100
+SECONDS, SCRIPT_SECONDS = 300, 100
 # How often a browser is started that does not come up, as happens on a loaded machine.
 STARTS = 3
 # How long it is waited before the page is asked again whether something is so, at first and at
@@ -54,6 +55,15 @@ else {
   const late = setTimeout(judge, 2000);
   requestAnimationFrame(() => setTimeout(() => { clearTimeout(late); judge(); }));
 }
+"""
+# What tells why a page is not as expected.
+SAID = """
+const said = (id) => document.getElementById(id)?.textContent;
+return [location.href, document.readyState, document.hidden, window.underWay,
+  document.getElementById("main")?.getAttribute("aria-busy"), said("value"), said("trouble"),
+  said("news"), said("drawn-note"), document.querySelector("#what h3")?.textContent,
+  performance.getEntriesByType("resource").slice(-5).map((it) =>
+    [it.name.split("/").pop(), Math.round(it.duration)])];
 """
 
 
@@ -155,6 +165,8 @@ class Page:
             "!document.querySelector('#grid td.old')"
         )
         self.wait(lambda: self.driver.execute_script(script))
+        # The selection and the legend hear of it too.
+        self.settle()
 
     def wait(self, is_so: Callable[[], object]) -> None:
         """Waits until something is so. The longer it takes, the more seldom it is asked for, which
@@ -187,7 +199,17 @@ class Page:
                 last = error
             time.sleep(pause)
             pause = min(1.5 * pause, LATE)
-        raise TimeoutException(f"after {SECONDS} seconds it is not so") from last
+        raise TimeoutException(f"after {SECONDS} seconds it is not so: {self.told()}") from last
+
+    def told(self) -> str:
+        """What the page says of itself, for whoever reads that a test failed."""
+        from selenium.common.exceptions import WebDriverException
+
+        try:
+            said = [self.driver.execute_script(SAID), self.driver.get_log("browser")[-5:]]
+        except WebDriverException as error:
+            return f"the page does not answer: {error.msg}"
+        return json.dumps(said, ensure_ascii=False)
 
     def actions(self) -> Any:
         """What a pointer and keys do, one after the other, once it is performed."""

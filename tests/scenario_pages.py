@@ -47,6 +47,7 @@ class ScenarioPage(Page):
             lambda: self.text("#compare-values").startswith(f"{one}: ")
             and self.driver.find_elements("css selector", "#compare-picture svg")
         )
+        self.settle()
 
     def unfold(self) -> None:
         self.driver.execute_script("document.querySelector('#scenarios details').open = true")

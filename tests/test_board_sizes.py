@@ -174,9 +174,9 @@ def judge_keys(page: Page, it: Board) -> None:
     page.wait(lambda: page.text("#what h3") not in ("", before))
     place = page.text("#what h3")
     assert place in it.told(f"find?text={place}")["found"][0]["label"]
+    page.settle()
     seen = "return document.querySelector('#picture svg').viewBox.baseVal.width"
     wide = driver.execute_script(seen)
-    page.settle()
     page.actions().send_keys("++").perform()
     assert driver.execute_script(seen) == pytest.approx(wide / 1.4 / 1.4, rel=0.01)
     page.actions().send_keys(ESCAPE).perform()

@@ -141,6 +141,8 @@ class Walk:
         place = self.chance.randrange(len(self.model.rows))
         row = self.model.rows[place]
         self.click_row(place)
+        # Another arc of the same name may have been chosen before.
+        self.page.settle()
         self.page.wait(
             lambda: self.page.text("#what h3") == row.told()[0]
             and row.tail in self.page.text("#what p")
@@ -165,6 +167,8 @@ class Walk:
         last = self.chance.randrange(first + 1, min(first + 5, len(self.model.rows)))
         self.click_row(first)
         self.click_row(last, shift=True)
+        # As many of other rows may have been chosen before.
+        self.page.settle()
         opened, closed = (
             [at for at in range(first, last + 1) if self.model.rows[at].is_closed == is_so]
             for is_so in (False, True)

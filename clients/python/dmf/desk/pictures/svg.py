@@ -8,10 +8,10 @@ from collections.abc import Iterable, Sequence
 from xml.etree import ElementTree
 
 from .arrows import SVG
+from .letters import width as text_width
 
-# The size of the letters below a saved picture, and the width of a letter and the height of a line
-# at size 1.
-CAPTION, WIDE, LINE = 11.0, 0.6, 1.4
+# The size of the letters below a saved picture, and the height of a line at size 1.
+CAPTION, LINE = 11.0, 1.4
 # Characters that XML does not allow, and that `display` leaves as they are.
 _NO_XML = re.compile("[\ufffe\uffff]")
 
@@ -33,7 +33,7 @@ def written(root: ElementTree.Element, style: str = "", below: Sequence[str] = (
     """Return the text of a picture, with a style in it, and lines below it."""
     if style:
         left, top, width, height = map(float, (root.get("viewBox") or "0 0 1 1").split())
-        wide = max([width, *(len(line) * CAPTION * WIDE for line in below)])
+        wide = max([width, *(text_width(line) * CAPTION for line in below)])
         root.set(
             "viewBox",
             f"{left:.2f} {top:.2f} {wide:.2f} {height + len(below) * CAPTION * LINE + CAPTION:.2f}",

@@ -9,32 +9,28 @@ from collections.abc import Iterable, Iterator, Sequence
 from dataclasses import dataclass
 from typing import NamedTuple
 
+from ..pictures.letters import width
+
 Point = tuple[float, float]
 # The most labels, the size of their letters on paper, and the height of a line at size 1.
 MOST_LABELS, SIZE, LINE = 30, 8.5, 1.2
 # The room for a label on a small picture, in square points.
 ROOM = 3_000.0
-# The width of a letter at size 1: of narrow ones, wide ones, capitals and digits, and others; and
-# how much wider bold ones are.
-NARROW, WIDE_LETTERS, WIDE, CAPITAL, OTHER, BOLD = (
-    "iljtfr.,:;'|!()[] -/",
-    "mwMW@%",
-    0.98,
-    0.7,
-    0.62,
-    1.11,
-)
 # How far a label is from a line or a place, and the parts of a line beside which it may lie.
 APART, ALONG = 2.0, (0.5, 0.35, 0.65, 0.2, 0.8)
-# How far away a label may lie, in heights of a line of it, and in how many directions.
-FURTHEST, WAYS = 22, 24
+# The parts of a line to which a thin line may lead.
+LED_TO = tuple(at / 20 for at in range(3, 18))
+# How far away a label may lie, in heights of a line of it, and in how many directions; and how far
+# away it is at least, in points, to have a thin line.
+FURTHEST, WAYS, LED = 22, 24, 6.0
 # How far a label with a thin line to it may be before one on lines is better; and what a point of a
 # line below a label costs, of an ordinary one, one without flow and one of the bottleneck, and a
 # point of distance.
 FAR, ORDINARY, UNUSED, LIMIT, AWAY = 90.0, 1.0, 0.2, 6.0, 1.0
 # How close the points of a line are that are known, and the side of a field in which they are; how
-# far a label is from all lines, and how far away other lines are looked for.
-STEP, FIELD, CLEAR, AROUND = 2.0, 6.0, 0.5, 12.0
+# far a label is from all lines, how far away other lines are looked for, and how much further away
+# than the line of the label they must be.
+STEP, FIELD, CLEAR, AROUND, FURTHER = 2.0, 6.0, 0.5, 12.0, 5.0
 
 
 class Box(NamedTuple):
@@ -76,26 +72,15 @@ class Text(NamedTuple):
 
     @property
     def wide(self) -> float:
-        return sum(map(_letter, self.text)) * SIZE * (BOLD if self.is_bold else 1.0)
-
-
-def _letter(letter: str) -> float:
-    return (
-        0.4
-        if letter in NARROW
-        else WIDE
-        if letter in WIDE_LETTERS
-        else CAPITAL
-        if letter.isupper() or not letter.isascii()
-        else OTHER
-    )
+        return width(self.text, self.is_bold) * SIZE
 
 
 @dataclass(frozen=True)
 class Wish:
     """A label that a picture should have. Less `rank` is more important, and what must be named may
-    lie further away, at the end of a thin line. `origin` is the middle of its place or its line,
-    `reach` how far its place reaches, and `line` has the ends of its line, if it is that of one."""
+    lie further away, at the end of a thin line, or on lines if it may cover them. `origin` is the
+    middle of its place or its line, `reach` how far its place reaches, and `line` has the ends of
+    its line, if it is that of one."""
 
     key: str
     rank: int
@@ -104,10 +89,17 @@ class Wish:
     origin: Point
     reach: float
     line: tuple[Point, ...] = ()
+    may_cover: bool = False
 
     def size(self, count: int) -> tuple[float, float]:
         """Return half the width and half the height of its first lines."""
         return max(it.wide for it in self.texts[:count]) / 2, count * SIZE * LINE / 2
+
+    def begin(self, box: Box) -> Point:
+        """Return where a thin line to a box begins: in the middle of its place, or at the nearest
+        point of its line."""
+        points = [_piece(self.line, part)[0] for part in LED_TO] if self.line else [self.origin]
+        return min(points, key=box.away)
 
     def near(self, count: int) -> Iterator[Box]:
         """Yield the boxes beside its place or its line, the best first."""
@@ -201,11 +193,16 @@ class Ink:
         return sum(self._costs.get(field, 0.0) for field in _fields_of(box, 0.0))
 
     def is_nearest(self, box: Box, wish: Wish) -> bool:
-        """Return True if no other line is nearer to a box than that of the label: else it would be
-        read as that of the other."""
+        """Return True if each other line is clearly further from a box than that of the label: else
+        it might be read as that of the other."""
         near = [(key == wish.key, box.away(point)) for key, point in self.near(box, AROUND)]
         own = min((away for is_own, away in near if is_own), default=AROUND)
-        return all(is_own or away >= own for is_own, away in near)
+        return all(is_own or away >= own + FURTHER for is_own, away in near)
+
+    def is_crossed(self, point: Point, key: str) -> bool:
+        """Return True if a line other than this one leads over a point."""
+        spot = Box(*point, 0.0, 0.0)
+        return any(other != key for other, _ in self.near(spot, STEP / 2 + CLEAR))
 
 
 def _fields_of(box: Box, by: float) -> Iterator[tuple[int, int]]:
@@ -227,12 +224,17 @@ class Put(NamedTuple):
     leader: tuple[Point, ...]
 
 
+def most_labels(size: Point) -> int:
+    """Return how many labels a picture of this size has at most."""
+    return min(MOST_LABELS, int(size[0] * size[1] / ROOM))
+
+
 class Labels:
     """The labels that have found their places in a picture of this size."""
 
     def __init__(self, size: Point, places: Iterable[Box], ink: Ink) -> None:
         self._size, self._ink = size, ink
-        self._most = min(MOST_LABELS, int(size[0] * size[1] / ROOM))
+        self._most = most_labels(size)
         self._solid = [*places]
         self._taken: list[Box] = []
         self.put: list[Put] = []
@@ -268,21 +270,34 @@ class Labels:
         return None
 
     def _best(self, wish: Wish, count: int) -> Put | None:
-        """Return the label further away, at the end of a thin line, or on lines if that is too
-        far."""
+        """Return the label further away, at the end of a thin line; or on lines if that is too far
+        and the label may cover them."""
         free = [box for box in (*wish.near(count), *wish.far(count)) if self._is_free(box)]
         free.sort(key=lambda it: it.away(wish.origin))
-        clear = (it for it in free if self._ink.is_clear(it) and self._leads(wish, it))
-        box = next(clear, None)
-        if free and (box is None or box.away(wish.origin) > FAR):
+        clear = [
+            it
+            for it in free
+            if it.away(wish.origin) <= FAR and self._ink.is_clear(it) and self._belongs(wish, it)
+        ]
+        ways = ((it, over) for over in (False, True) for it in clear)
+        box = next((it for it, over in ways if self._leads(wish, it, over)), None)
+        if box is None and free and wish.may_cover:
             box = min(free, key=lambda it: self._ink.cost(it) + AWAY * it.away(wish.origin))
         if box is None:
             return None
         return Put(wish, box, wish.texts[:count], self._leader(wish, box))
 
-    def _leads(self, wish: Wish, box: Box) -> bool:
-        """Return True if the line to a box crosses no other label."""
-        begin, end = wish.origin, box.nearest(wish.origin)
+    def _belongs(self, wish: Wish, box: Box) -> bool:
+        """Return True if a label is not read as that of another line: a thin line leads to it, or
+        its own line is nearest."""
+        is_led = box.away(wish.begin(box)) >= wish.reach + LED
+        return is_led or not wish.line or self._ink.is_nearest(box, wish)
+
+    def _leads(self, wish: Wish, box: Box, over_lines: bool) -> bool:
+        """Return True if the line to a box crosses no other label or place, nor another line unless
+        it may."""
+        begin = wish.begin(box)
+        end = box.nearest(begin)
         count = int(math.dist(begin, end) / STEP) + 1
         points = [
             (
@@ -291,15 +306,21 @@ class Labels:
             )
             for at in range(count + 1)
         ]
-        return all(taken.away(point) > 1 for taken in self._taken for point in points)
+        others = [*self._taken, *(it for it in self._solid if it.away(begin))]
+        return all(
+            all(other.away(point) > 1 for other in others)
+            and (over_lines or not self._ink.is_crossed(point, wish.key))
+            for point in points
+        )
 
     def _leader(self, wish: Wish, box: Box) -> tuple[Point, ...]:
-        end = box.nearest(wish.origin)
-        long = math.dist(wish.origin, end)
-        if long < wish.reach + 6:
+        origin = wish.begin(box)
+        end = box.nearest(origin)
+        long = math.dist(origin, end)
+        if long < wish.reach + LED:
             return ()
         by = wish.reach / long if not wish.line else 0.0
-        begin = tuple(one + by * (other - one) for one, other in zip(wish.origin, end))
+        begin = tuple(one + by * (other - one) for one, other in zip(origin, end))
         leader = ((begin[0], begin[1]), end)
         self._ink.add(f"leader of {wish.key}", leader, ORDINARY)
         return leader

@@ -17,7 +17,20 @@ from ..pipes import STILL, THERE
 from ..workspace import Desk
 from .report_ground import PIXEL, Ground, GroundLine, GroundPlace, Grounds, Paper, Point
 from .report_labels import LIMIT as LIMIT_COST
-from .report_labels import LINE, ORDINARY, SIZE, UNUSED, Box, Ink, Labels, Put, Text, Wish, middle
+from .report_labels import (
+    LINE,
+    ORDINARY,
+    SIZE,
+    UNUSED,
+    Box,
+    Ink,
+    Labels,
+    Put,
+    Text,
+    Wish,
+    middle,
+    most_labels,
+)
 from .report_ovals import ovals_of, routes_of
 
 # The radius of a source or a sink, and of another place at most; the usual length of lines from
@@ -204,7 +217,8 @@ class _Drawing:
         return labels.put
 
     def _wishes(self) -> Iterator[Wish]:
-        """Yield the labels that a picture should have, of each rank the largest first."""
+        """Yield the labels that a picture should have, of each rank the largest first. If there is
+        room for the names of all places, none may be left out."""
         told, others = list[GroundLine](), list[GroundLine]()
         lines = sorted(
             self._ground.lines, key=lambda it: (shade_of(it.mark) is IDLE, -int(it.mark.width))
@@ -216,8 +230,9 @@ class _Drawing:
         places = [it for it in self._ground.places if it.node not in self._ovals]
         ends = sorted((it for it in places if it.is_end), key=lambda it: not it.is_limit)
         plain = [it for it in places if not it.is_end and self._reach(it)]
+        must = len(told) + len(places) <= most_labels(self._ground.sheet)
         for place in (*ends, *plain[:MOST_TRIED]):
-            yield _place_wish(place, self._reach(place))
+            yield _place_wish(place, self._reach(place), must)
 
     def _line_wish(self, line: GroundLine) -> Wish:
         shade, route = shade_of(line.mark), self._route(line)
@@ -227,7 +242,8 @@ class _Drawing:
         amounts = Text(short_amounts(self._desk, line.number), ink)
         reach = self._thick(line) / 2
         texts = (*name, amounts)
-        return Wish(f"arc-{line.number}", rank, rank < 4, texts, middle(route), reach, route)
+        must = rank < 4
+        return Wish(f"arc-{line.number}", rank, must, texts, middle(route), reach, route, must)
 
 
 def _around_middle(route: Sequence[Point]) -> tuple[Point, Point]:
@@ -251,9 +267,10 @@ def _texts(place: GroundPlace) -> tuple[Text, ...]:
     )
 
 
-def _place_wish(place: GroundPlace, reach: float) -> Wish:
+def _place_wish(place: GroundPlace, reach: float, must: bool = False) -> Wish:
     rank = 0 if place.is_shut else 1 if place.is_limit else 2 if place.is_end else 3
-    return Wish(f"node-{place.node}", rank, rank < 3, _texts(place), place.at, reach)
+    told, named = rank < 3, f"node-{place.node}"
+    return Wish(named, rank, must or told, _texts(place), place.at, reach, may_cover=told)
 
 
 def _pie(at: Point, share: float) -> str:
