@@ -1,4 +1,8 @@
--- The steps by which a walk takes a box apart, and makes one again, on the heap.
+-- The steps by which a walk takes a box on the heap apart, and makes one again, for a value of any type: the proofs by hand of both kinds of
+-- handle, and of their slots, consist of these and of what is their own.
+--     heap_of        the heap's functions, as the code of the walk's function calls them
+--     boxes          a call of `Box::from_raw`: the memory of a value and the heap become a box.        boxes_last       the same where the call is the last of its part
+--     takes_apart    a call of `Box::into_raw_with_allocator`: a box becomes the heap and the memory of its value
 use Rattle.dmf_c.proofs.Steps.{◌≡◌, ◌∙◌, List, [], ◌∷◌, ◌++◌, refl, sym, ap, subst, Global, Ura, Dict, dnil, bare, Val, vptr, vstruct, of_list, full_share, never, fst∗, id⊢, ftrue, flft, Model, Wired, Logic, sem, ‵, raw, ◌⊛◌, some, later, ◌$◌, move, drop, split, split3, join, fsplit, fjoin, fpick, pick, use1, await, rewrite, feq_i, feq_l, ⊑_static, Running, tables, RawPtr, layout, Laws, RattleType, Ptr, block_ptr, null_ptr, ptr_val, in_a_block, nothing, only, calls_at, Lasts, lasts, triple_of, framed, handle_tells, box_out, box_in, box_owns, ghosts, dict}
 use Prim.Native.Nat.{ℕ}
 use mir.Syntax.{Place, Opd as Operand, Body, a_type, call, seq, dcons}
@@ -39,7 +43,6 @@ use Rattle.dmf_c.proofs.Destruct++none.drop.Symbol as nothing_symbol
 use Rattle.dmf_c.proofs.Destruct++none.drop.Code as nothing-dropped
 use Rattle.dmf_c.proofs.Passed.{A, LA, drops, al}
 
--- the heap's functions, as a caller of them knows them
 pub record Heap (γ : Code) : Type 0 where
   pub allocate : Wired γ allocate_symbol.code
   pub deallocate : Wired γ deallocate_symbol.code
@@ -50,6 +53,7 @@ pub record Heap (γ : Code) : Type 0 where
 pub heap_of : {γ : Code} → Wired γ allocate_symbol.code → Wired γ deallocate_symbol.code → Wired γ grow_symbol.code → Wired γ shrink_symbol.code → Wired γ nothing_symbol.code → Heap γ
 heap_of a d g s n = record { allocate = a; deallocate = d; grow = g; shrink = s; no_drop = n }
 
+-- X is the type of the value as a call passes it, and has no lifetime of its own.
 module _ {M : Type 1} {𝓤 : Ura M} (𝓛 : Logic 𝓤) (𝓜 : Model 𝓤 𝓛.H) (𝓡 : Running 𝓤 𝓛.H 𝓜) (heap : Heap 𝓡.env) (X : RattleType) (LX : Laws X) (outlived : (ν : Lft) → ν ⊑ X.lives) where
   abbrev E : box.Bx
   E = record { row = X; laws = LX; al = al }
@@ -95,7 +99,6 @@ module _ {M : Type 1} {𝓤 : Ura M} (𝓛 : Logic 𝓤) (𝓜 : Model 𝓤 𝓛
           move t (1 ∷ []) $ drop t $ after r same (subst (Good (layout B)) (sym (ap only us)) (box.box_typed E h' b' o' fits))))))
 
   module _ {K : Type 0} {Γ : List (Item 𝓤)} {En : Env 𝓤 𝓛.H} {q : Post 𝓤 𝓛.H} {d : Place} {xs : List Operand} where
-    -- `Box::from_raw` makes a box of the value in a block. `boxes_last` is of a call that is the last of its part.
     pub boxes_last : K → Wired 𝓡.env from_raw_symbol.code → (a : Global) (h : Val) (b o : ℕ) (x : X.Denot) → ((i : Item 𝓤) → Opds K 𝓛 (i ∷ Γ) En xs (h ∷ vptr b o ∷ []))
         → ((u : Val) (r : box.D E) → r.value ≡ x → Good (layout B) u → Seq K 𝓛 (‵ (B.own_val r (u ∷ [])) ∷ Γ) (settles En d u q))
         → Seq K 𝓛 (‵ (box_owns (ghosts.dealloc_token a) (box.R E) (block_ptr b o) x) ∷ ‵ (A.own_val a (h ∷ [])) ∷ Γ) (runs 𝓣.C 𝓣.Λ En (call (from_raw_key.name (box.args E)) xs d) q)
@@ -111,7 +114,6 @@ module _ {M : Type 1} {𝓤 : Ura M} (𝓛 : Logic 𝓤) (𝓜 : Model 𝓤 𝓛
           asks a h b o x t tt (λ α β.
           calls_at t (framed 𝓤 𝓛.H 𝓜 𝓣) Asked (meets w) (bound a h b o x α β) (opds (raw (Asked.pre (bound a h b o x α β)))) (λ u. gets a h b o x t tt α β u (after u)))
 
-      -- `Box::into_raw_with_allocator` takes a box apart: the memory in its block, and the heap
       pub takes_apart : K → (free : Dict) → Glue.Met 𝓛 𝓜 𝓡 𝓡.env X free → Wired 𝓡.env into_raw_symbol.code → (v : box.D E) (w : Val)
           → ((i : Item 𝓤) → Opds K 𝓛 (i ∷ Γ) En xs (w ∷ []))
           → ((b o : ℕ) (h u : Val) → u ≡ box.word E h b o → Fits al h
@@ -120,7 +122,7 @@ module _ {M : Type 1} {𝓤 : Ura M} (𝓛 : Logic 𝓤) (𝓜 : Model 𝓤 𝓛
           (runs 𝓣.C 𝓣.Λ En (seq (call (into_raw_key.name (bounded (a_type ∷ a_type ∷ []) (X, (A, tt)) (dcons dict (dcons drops (dcons free dnil))))) xs d) rest) q)
       unfolding nothing-dropped.code
       takes_apart t free glue w' v w opds after =
-          let B = box.B E in let a = v.alloc in
+          let a = v.alloc in
           lft_new t tt (λ α. lft_new t tt (λ β. let κ : Lft = α ∷ [] in let ν : Lft = β ∷ [] in
           nothing t $ move t (2 ∷ 0 ∷ []) $ join t $ move t (1 ∷ []) $ join t $ nothing t $ move t (2 ∷ 0 ∷ []) $ fjoin t $ move t (1 ∷ 0 ∷ []) $ join t $
           nothing t $ use0 𝓛 (raw (fact 𝓤 (κ ⊑ A.lives))) (fact_i 𝓤 (κ ⊑ A.lives) (emp 𝓤) (⊑_static κ)) $ join t $
