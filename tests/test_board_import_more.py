@@ -256,8 +256,8 @@ def test_ended(tmp_path: Path) -> None:
         time.sleep(1)
         assert it.end() == 130
         thread.join()
-        # It did not wait for the end of the reading.
-        assert views == []
+        # It did not wait for the end of the reading. It may still answer that this was stopped.
+        assert all(view["is_stopped"] for view in views)
 
 
 def note_view(it: Board, views: list[Any]) -> None:
