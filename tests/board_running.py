@@ -96,7 +96,7 @@ class Board:
         return self.ended()
 
     def ended(self) -> int:
-        """The status of the board, once it has ended, which may be a while after its last page."""
+        """The status of the board, once it has ended. It runs on for a time after its last page."""
         with contextlib.suppress(subprocess.TimeoutExpired):
             self.process.communicate(timeout=AFTER_BREAK + SECONDS)
         if self.process.poll() is None:
