@@ -9,8 +9,9 @@ from pathlib import Path
 
 import pytest
 from conftest import ROOT
+from limits import SECONDS
 from nested import run_pytest
-from small_clone import SECONDS, Clone
+from small_clone import Clone
 
 SAID = "2 passed, 0 failed"
 GATE = ".ci/run", "--no-root"

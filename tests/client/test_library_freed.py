@@ -15,7 +15,8 @@ from broken_off import all_told, prepared
 from client_shared import BUILT, PIPES, dmf, interrupted_when, pipes
 from dmf.session import library as loaded
 from dmf.session import worker_threads
-from watched_library import SECONDS, counted, slow_call, wait_until_freed
+from limits import SECONDS
+from watched_library import counted, slow_call, wait_until_freed
 
 pytestmark = pytest.mark.usefixtures("by_library")
 

@@ -23,7 +23,8 @@ from c_library import library_folder
 from client_shared import BUILT, CLIENT, dmf
 from conftest import ROOT, shared
 from launched import judge_help, judge_streams, judge_words
-from pip_runs import SECONDS, build, call, out, own, pip_install
+from limits import SECONDS
+from pip_runs import build, call, out, own, pip_install
 from trees import copy_tracked
 
 pytestmark = pytest.mark.seconds(10)

@@ -14,17 +14,9 @@ from pathlib import Path
 
 import pytest
 from conftest import BUILT, ROOT
+from limits import SECONDS
 from prebuilt_clones import DAMAGES, clone, flipped, read_only, somebody
-from small_clone import (
-    FACTS,
-    PACKED,
-    PACKED_ARCHIVE,
-    PACKED_LIBRARY,
-    PROGRAM,
-    SECONDS,
-    Clone,
-    Ended,
-)
+from small_clone import FACTS, PACKED, PACKED_ARCHIVE, PACKED_LIBRARY, PROGRAM, Clone, Ended
 
 # Fixtures.
 __all__ = ["clone", "read_only"]

@@ -6,8 +6,9 @@ import stat
 import subprocess
 
 import pytest
+from limits import SECONDS
 from prebuilt_clones import DAMAGES, clone, flipped, read_only, somebody
-from small_clone import ARCHIVE, LIBRARY, PACKED_ARCHIVE, PACKED_LIBRARY, SECONDS, Clone, Ended
+from small_clone import ARCHIVE, LIBRARY, PACKED_ARCHIVE, PACKED_LIBRARY, Clone, Ended
 
 # Fixtures.
 __all__ = ["clone", "read_only"]

@@ -11,6 +11,7 @@ import built
 import pytest
 from built import PROBLEM, Case
 from conftest import shared
+from limits import SECONDS
 from refused import ways_of
 from worked_forms import CROSSED, CROSSED_FLOW, text
 
@@ -97,7 +98,7 @@ def judge(case: Case, **environment: str) -> built.Run:
         words,
         input=case.input,
         capture_output=True,
-        timeout=built.SECONDS,
+        timeout=SECONDS,
         env={**os.environ, **environment},
     )
     assert ran.returncode != FOUND and b"==" not in ran.stderr, ran.stderr.decode()

@@ -16,9 +16,10 @@ from typing import IO
 
 import pytest
 from conftest import BUILT
+from limits import SECONDS
 from make_network import problem_of
 from progress_lines import ERASED, WORD, is_on_its_way, lines_of, solves_of, tasks_of
-from terminals import PAUSE, SECONDS, Terminal, typed, with_terminal
+from terminals import PAUSE, Terminal, typed, with_terminal
 
 INVITATION = "dmf: reads a problem from the terminal; Ctrl-D ends it (dmf --help says more)\n"
 SMALL = b"p max 2 1\nn 1 s\nn 2 t\na 1 2 3\n"

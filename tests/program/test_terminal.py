@@ -12,12 +12,13 @@ from pathlib import Path
 
 import pytest
 from conftest import BUILT, ROOT
+from limits import SECONDS
 from terminal_numbers import NUMBERS
 from terminal_rows import PROBLEMS
 from terminal_sessions import HELP, INVITATION, NETWORK, OPENING, SESSION, SOLVED, WORDS, Words
 from terminal_solutions import SOLUTIONS
 from terminal_texts import Text
-from terminals import SECONDS, Terminal, typed, with_terminal, without_terminal
+from terminals import Terminal, typed, with_terminal, without_terminal
 
 
 @pytest.fixture(scope="module")
