@@ -174,13 +174,13 @@ def offered_at_terminal(shell: str, file: str, line: str, wanted: set[str]) -> s
     )
     terminal.type(f"{prepare}; PS1=; echo rea''dy\n")
     terminal.wait(lambda shown: "ready\r\n" in shown)
-    is_completed = len(wanted) == 1 and line.rpartition(" ")[2].strip("-")
+    is_completed = len(wanted) == 1 and line.rpartition(" ")[2] not in ("", "-")
     terminal.type(f"{line}\t" if is_completed else f"{line}\t\t")
     if wanted:
         terminal.wait(lambda shown: wanted <= words_shown(shown, line))
     else:
         # Where nothing is offered, each tab rings the bell; zsh rings it after what it offers, too.
-        terminal.wait(lambda shown: shown.count("\a") == 2, 2)
+        terminal.wait(lambda shown: shown.count("\a") >= 2, 30)
     terminal.end()
     return words_shown(terminal.shown, line)
 
