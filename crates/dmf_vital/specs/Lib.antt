@@ -14,4 +14,3 @@ pub mod Shifted
 pub mod Entering
 pub mod Rest
 pub mod Extended
-pub mod Sent
