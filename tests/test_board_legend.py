@@ -14,6 +14,7 @@ import pytest
 from board_pages import Page
 from board_running import Board, board
 from desk_shared import PIPES, Pipe, greatest, water
+from dmf.desk.board.shown import MOST_LAID_OUT
 from test_board_access import as_before, show
 
 pytestmark = pytest.mark.seconds(20)
@@ -232,12 +233,13 @@ def banded(pipes: list[Pipe]) -> dict[str, set[int]]:
 
 
 def test_part(driver: Any, tmp_path: Path) -> None:
-    """Where the picture has a part of the arcs the legend does not count it as if it were all."""
-    table = tmp_path / "long.csv"
+    """Where the picture has a part of the arcs, since they are too many to be laid out as a whole,
+    the legend does not count it as if it were all."""
+    table, count = tmp_path / "long.csv", MOST_LAID_OUT + 1
     table.write_text(
-        "from,to,litres\n" + "".join(f"P{at},P{at + 1},{at % 7 + 1}\n" for at in range(400))
+        "from,to,litres\n" + "".join(f"P{at},P{at + 1},{at % 7 + 1}\n" for at in range(count))
     )
-    with board("--source", "P0", "--sink", "P400", str(table)) as it:
+    with board("--source", "P0", "--sink", f"P{count}", str(table)) as it:
         page = Page(driver, it.address)
         assert {count for count, _ in entries(page).values()} == {""}
 

@@ -111,8 +111,11 @@ class Clone:
         )
 
     def call(self, *words: str, by: tuple[str, ...] = ()) -> tuple[int, str, str]:
+        """How a call ends."""
+        return self.ended(self.begin(*words, by=by))
+
+    def ended(self, ran: subprocess.Popen[str]) -> tuple[int, str, str]:
         """The status of a call, what it writes, and what standard error shows, without times."""
-        ran = self.begin(*words, by=by)
         out, err = ran.communicate(timeout=SECONDS)
         return (
             ran.returncode,
@@ -146,7 +149,11 @@ def test_calls(clone: Clone) -> None:
     """The first call builds two crates side by side, between the lowest and the program; the next
     builds nothing, nor does one after a change in a crate of tests; and one after another change
     builds again."""
-    assert clone.call("solve", "--cut") == (0, "ran solve --cut\n", FIRST_CALL + BUILT)
+    clone.hold.touch()
+    first = clone.begin("solve", "--cut")
+    clone.wait_for("begin right")
+    clone.hold.unlink()
+    assert clone.ended(first) == (0, "ran solve --cut\n", FIRST_CALL + BUILT)
     logged = clone.logged()
     # Which of two crates that are begun together writes first is chance.
     assert sorted(logged[:4]) == ["begin left", "begin low", "begin right", "end low"]
