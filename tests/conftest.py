@@ -157,12 +157,15 @@ def pytest_sessionfinish(session: pytest.Session) -> Iterator[None]:
     if reporter is None or hasattr(session.config, "workerinput"):
         return
     keep_found(reporter)
-    has_ended = session.exitstatus in (pytest.ExitCode.OK, pytest.ExitCode.TESTS_FAILED)
-    if has_ended and session.config.getoption("--again"):
-        run_again(reporter, partial(run_alone, session.config))
+    has_failed = session.exitstatus == pytest.ExitCode.TESTS_FAILED
+    passed_alone: list[str] = []
+    if has_failed and session.config.getoption("--again"):
+        passed_alone = run_again(reporter, partial(run_alone, session.config))
     passed, failed = counted(reporter)
-    if has_ended:
-        session.exitstatus = pytest.ExitCode.TESTS_FAILED if failed else pytest.ExitCode.OK
+    if failed and session.exitstatus == pytest.ExitCode.OK:
+        session.exitstatus = pytest.ExitCode.TESTS_FAILED
+    elif passed_alone and not failed:
+        session.exitstatus = pytest.ExitCode.OK
     for report in [*failed_reports(reporter), *reporter.stats.get("skipped", [])]:
         reporter.write_line(f"failed: {report.nodeid}: {reason(report)}")
     reporter.write_line(f"{passed} passed, {failed} failed")

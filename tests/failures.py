@@ -27,20 +27,21 @@ def reason(report: pytest.TestReport) -> str:
 
 def run_again(
     reporter: TerminalReporter, run_alone: Callable[[str], subprocess.CompletedProcess[str]]
-) -> None:
-    """Runs each test that failed once more, alone: beside others it may have failed because they
-    took its processor. If it passes, a line says so, and it counts as passed; if it fails again,
-    its output is shown."""
+) -> list[str]:
+    """Runs each test that failed once more, alone, and gives those that pass: beside others they
+    may have failed because these took their processor. If a test passes, a line says so, and it
+    counts as passed; if it fails again, its output is shown."""
     tests = {report.nodeid for report in failed_reports(reporter)}
-    if len(tests) > MOST_AGAIN:
-        return
-    for test in sorted(tests):
+    passed: list[str] = []
+    for test in sorted(tests) if len(tests) <= MOST_AGAIN else []:
         ran = run_alone(test)
         if ran.returncode == 0:
             reporter.write_line(f"failed beside other tests, and passed alone: {test}")
             count_as_passed(reporter, test)
+            passed.append(test)
         else:
             reporter.write_line(f"failed alone, too: {test}\n{ran.stdout}{ran.stderr}")
+    return passed
 
 
 def count_as_passed(reporter: TerminalReporter, test: str) -> None:
