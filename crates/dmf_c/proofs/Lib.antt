@@ -1,4 +1,6 @@
+pub mod Steps
 pub mod Passed
+pub mod Heap
 pub mod PlanGlue
 pub mod HandleGlue
 pub mod FlagGlue

@@ -1,12 +1,6 @@
 -- What a call passes for the heap, `Global`, where it stands for a type parameter.
-use Rattle.std.proofs.Common.{[], ◌∷◌, refl}
-use mir.Syntax.{Dict, impl, tnil, tcons, dnil}
-use mir.Raw.{raw as bare}
-use denote.Exit.{no}
-use denote.Param.{layout, arg}
-use denote.Param.Laws.{Laws, arg_laws}
-use denote.RattleType.{RattleType}
-use Rattle.std.specs.contracts.impls.GlobalAllocator.TheImpl.{ghosts, dict}
+use Rattle.dmf_c.proofs.Steps.{[], ◌∷◌, refl, Dict, impl, tnil, dnil, bare, no, layout, arg, Laws, arg_laws, RattleType, ghosts, dict}
+use mir.Syntax.{tcons}
 use Rattle.std.specs.contracts.alloc.Global.{the_row}
 use Rattle.std.proofs.alloc.Global.TheLaws.{the_row_laws}
 use Rattle.std.proofs.alloc.Calls.{Al}

@@ -1,28 +1,7 @@
 -- A plan may be dropped.
-use Rattle.std.proofs.Common.{List, [], ◌∷◌, refl}
-use mir.Syntax.{Dict, impl, method, tnil, dnil}
-use mir.Raw.{raw as bare}
-use seplogic.Ra.Ura.{Ura}
-use prog.Model.{Model}
-use prog.Wired.{Wired}
-use types.Logic.{Logic}
-use contract.Running.{Running, tables_of}
-use borrow.Fn.Glue.{glue_by}
-use borrow.Fn.Impl.{via_longer, method_Known}
+use Rattle.dmf_c.proofs.Steps.{[], ◌∷◌, refl, Dict, impl, method, tnil, dnil, bare, Ura, Model, Wired, Logic, Running, tables_of, glue_by, glue_ps, via_longer, method_Known, Over, no, layout, layouts, arg, Laws, arg_laws, RattleType, AllWithin, Ended, Lasts, lasts, at_exit, Args, Res, Fit, World}
 use borrow.Fn.Kinds as kinds
-use borrow.Fn.Run.{Over}
-use borrow.Kind.Owned.{p_owned}
-use denote.Exit.{no}
-use denote.Param.{layout, layouts, arg, param}
 use denote.Param.Glue
-use denote.Param.Laws.{Laws, arg_laws, param_laws}
-use denote.Param.Mute.{Mute-seen}
-use denote.RattleType.{RattleType}
-use denote.Triple.Carry.{AllWithin}
-use denote.Triple.Clauses.{Ended, Lasts, lasts, at_exit}
-use denote.Triple.Entry.{Args, Res}
-use denote.Triple.Walked.{Fit}
-use borrow.Fn.World.{World}
 use Rattle.dmf_c.specs.contracts.plan.Plan.{the_row}
 use Rattle.dmf_c.proofs.plan.Plan.TheLaws.{the_row_laws}
 use Rattle.dmf_c.proofs.dmf_c++plan++Plan+Destruct.drop.Kinds as its_kinds
@@ -41,9 +20,6 @@ LX = arg_laws (bare (layout the_row)) no the_row the_row_laws refl
 abbrev pub dict : Dict
 dict = impl ("dmf_c::dmf_c++plan++Plan+Destruct::drop" ∷ []) tnil dnil
 
-abbrev taken : List (kinds.ParamKind 1)
-taken = p_owned (param 0 X) refl no (Mute-seen (λ x. tt)) (λ M 𝓤 𝓛. (param_laws 0 X LX).lawful 𝓛) ∷ []
-
 abbrev ended : Ended
 ended = kinds.ended_of 0 its_kinds.ps its_kinds.r
 
@@ -57,7 +33,7 @@ glue {M} 𝓤 𝓛 𝓜 𝓡 w =
     let world : World = record { M = M; 𝓤 = 𝓤; 𝓛 = 𝓛; 𝓜 = 𝓜; 𝓡 = 𝓡 } in
     glue_by X LX world dict 𝓡.env (λ κs a. Lasts ended tt a) (λ κs a. lasts ended tt a) (λ κs a x ws. Left a x ws)
     (λ κs a. AllWithin 1 (κs.0, tt) (X.lives, tt) × Unit {0}) 0 tt (λ κs a h. ((h, tt), tt))
-    (via_longer 𝓛 (Over 𝓛 𝓜 𝓡 𝓡.env) 1 taken kinds.r_unit (λ κs a. Lasts ended tt a) (λ κs a. lasts ended tt a) (λ κs a x ws. Left a x ws)
+    (via_longer 𝓛 (Over 𝓛 𝓜 𝓡 𝓡.env) 1 (glue_ps X LX) kinds.r_unit (λ κs a. Lasts ended tt a) (λ κs a. lasts ended tt a) (λ κs a x ws. Left a x ws)
     (λ κs a. AllWithin 1 (κs.0, tt) (X.lives, tt) × Unit {0}) (method dict 0 (layouts [] tt)) 0 tt (λ κs. tt) (λ κs a. reads.Asked tt a) (λ κs a p. (tt, tt))
     (λ κs bd within a vss qs. method_Known 0 its_kinds.ps its_kinds.r reads.requires reads.ensures reads.Asked reads.Learnt reads.known world symbol.name
     (method dict 0 (layouts [] tt)) (symbol.as_method 𝓡.env w (method dict 0 (layouts [] tt)) refl) (its_met.met 𝓤 𝓛 𝓜 𝓡 w) ((tt, qs, tt, a, vss), tt)))

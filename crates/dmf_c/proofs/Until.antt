@@ -1,5 +1,5 @@
 -- What follows from the number of the answer to a solve that a flag may have ended.
-use Rattle.std.proofs.Common.{ℕ, ◌≡◌, ◌≢◌, ◌⊎◌, Bool, true, false, [], ◌∷◌, Result, Ok, Err, inl, inr, refl}
+use Rattle.std.proofs.Common.{ℕ, ◌≡◌, ◌≢◌, Bool, true, false, [], ◌∷◌, Result, Ok, Err, inl, inr, refl}
 use Rattle.dmf_history.specs.Timeline.{Timeline}
 use Rattle.dmf_session.specs.declared.command.Command.TheVariants.{Solve}
 use Rattle.dmf_session.specs.declared.command.Reply.{Reply}

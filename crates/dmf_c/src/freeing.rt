@@ -15,13 +15,6 @@ pub unsafe extern "C" fn dmf_session_free(alloc: Global, session: *mut Handle)
     if session.is_null() {
         return;
     }
-    freed(alloc, session);
-}
-
-unsafe fn freed(alloc: Global, session: *mut Handle)
-    ghost handle: { Owned }
-    requires* { sem 𝓛 (owns_handle session handle) }
-{
     closed(Box::from_raw(alloc, session));
 }
 

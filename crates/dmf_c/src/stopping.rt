@@ -114,13 +114,6 @@ pub unsafe extern "C" fn dmf_stop_free(alloc: Global, stop: *mut Stop)
     if stop.is_null() {
         return;
     }
-    freed_stop(alloc, stop);
-}
-
-unsafe fn freed_stop(alloc: Global, stop: *mut Stop)
-    ghost handle: { Owned }
-    requires* { sem 𝓛 (owns_stop stop handle) }
-{
     closed_stop(Box::from_raw(alloc, stop));
 }
 

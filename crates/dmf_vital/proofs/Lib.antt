@@ -16,6 +16,7 @@ pub mod Level
 pub mod Summed
 pub mod Entering
 pub mod Pushed
+pub mod Sending
 pub mod Moved
 pub mod Stuck
 pub mod Lost

@@ -14,3 +14,4 @@ pub mod Shifted
 pub mod Entering
 pub mod Rest
 pub mod Extended
+pub mod Sent

@@ -13,10 +13,14 @@ pub use loss::{
 pub use pairs::{pair_losses, worst_pairs, worst_pairs_among};
 pub use worst::{NumberedLoss, worst_arcs, worst_arcs_among, worst_nodes};
 
+mod along;
 mod chains;
+mod climb;
 mod cursor;
 mod exits;
 mod gain;
+mod grown;
+mod growth;
 mod guess;
 mod hop;
 mod laws;

@@ -69,7 +69,7 @@ fn climb(state: &State, tree: &Tree, exits: Exits, v: u32, amount: u64, flows: &
 }
 
 /// Sends an amount more over arc number `j`, along it or against it.
-fn send(j: u32, against: bool, amount: u64, flows: &mut [u64])
+pub fn send(j: u32, against: bool, amount: u64, flows: &mut [u64])
     requires from_one { 1 ≤ j }
     requires to_last { j ≤ length flows.old }
     requires less { against ≡ true → amount ≤ flow_on flows.old j }

@@ -1,4 +1,4 @@
-ghost use Rattle.std.specs.Prelude.{◌≡◌, false, true, IfOk};
+ghost use Rattle.std.specs.Prelude.{◌≡◌, ◌≤◌, false, true, IfOk};
 ghost use Rattle.dmf_node.specs.Node.{IsNode};
 ghost use Rattle.dmf_state.specs.Flow.{AreWithinCapacities, IsInnerNode, flow_on};
 ghost use Rattle.dmf_state.specs.Network.{IsNetwork, arc_number, has_arc};
@@ -12,12 +12,17 @@ ghost use Rattle.dmf_vital.specs.Through.{flow_through, part_off};
 
 use crate::chains::{Chains, make_chains};
 use crate::exits::Exits;
+use crate::grown::{Growth, make_growth};
+use crate::growth::grow;
 use crate::push::push;
 use crate::ranks::make_ranks;
 use crate::search::{Steps, search};
 use crate::tree::{Tree, make_tree};
 use dmf_state::State;
 use std::alloc::{AllocError, Global};
+
+/// If a search reaches fewer nodes, the next one costs less than a growth.
+const FEW: usize = 64;
 
 /// A greatest flow, which may be moved from one arc to others, and what searches need for that.
 #[derive(Drop)]
@@ -30,6 +35,8 @@ pub struct Rerouting {
     pub against: Chains,
     /// What the last search has reached.
     pub tree: Tree,
+    /// What the last growth has reached.
+    pub growth: Growth,
 }
 
 /// Begins with the state's flow. Takes memory for three numbers an arc and some a node.
@@ -42,6 +49,7 @@ pub fn make_rerouting(alloc: Global, state: &State) -> Result<Rerouting, AllocEr
         along: make_chains(alloc, state, false)?,
         against: make_chains(alloc, state, true)?,
         tree: make_tree(alloc, state.nodes())?,
+        growth: make_growth(alloc, state.nodes())?,
     })
 }
 
@@ -181,7 +189,7 @@ fn lower(
         if moved == 0 {
             return Ok(true);
         }
-        left = left.saturating_sub(moved);
+        left = more_off(state, rerouting, exits, left - moved, bound)?;
     }
     Ok(false)
 }
@@ -223,7 +231,7 @@ pub fn loss_at(
     loss_of_node(state, ranks, rerouting, v)
 }
 
-/// Moves the flow on the exits to other ways, one path at a time, until none is left or no path is. Returns what is left.
+/// Moves the flow on the exits to other ways until none is left or no path is. Returns what is left.
 fn left_on(state: &State, rerouting: &mut Rerouting, exits: Exits) -> Result<u64, AllocError>
     requires exits { AreExits state.now.network exits }
     requires ready { IsReady state.now rerouting.old }
@@ -239,8 +247,43 @@ fn left_on(state: &State, rerouting: &mut Rerouting, exits: Exits) -> Result<u64
             return Ok(left);
         }
         left -= moved;
+        left = more_off(state, rerouting, exits, left, 0)?;
     }
     Ok(0)
+}
+
+/// Moves flow from the exits, which carry `left`, to the paths that a growth finds, until they carry at most `bound` or the growth ends. Returns
+/// what they carry. Moves nothing if the last search reached only a few nodes: the next search then costs less than a growth.
+fn more_off(
+    state: &State,
+    rerouting: &mut Rerouting,
+    exits: Exits,
+    left: u64,
+    bound: u64,
+) -> Result<u64, AllocError>
+    requires exits { AreExits state.now.network exits }
+    requires ready { IsReady state.now rerouting.old }
+    requires ranks { AreRanks state.now.network rerouting.old.flows.items exits.ranks.now }
+    requires left { left ≡ exit_flow state.now.network exits rerouting.old.flows.items }
+    ensures left { IfOk result (λ left. left ≡ exit_flow state.now.network exits.entry rerouting.new.flows.items) }
+    ensures less { exit_flow state.now.network exits.entry rerouting.new.flows.items ≤ exit_flow state.now.network exits.entry rerouting.old.flows.items }
+    ensures ready { IsReady state.now rerouting.new }
+    ensures ranks { AreRanks state.now.network rerouting.new.flows.items exits.entry.ranks.now }
+{
+    if left <= bound || rerouting.tree.found.len() < FEW {
+        return Ok(left);
+    }
+    let wanted = left - bound;
+    grow(
+        state,
+        &rerouting.along,
+        &rerouting.against,
+        exits,
+        wanted,
+        &mut rerouting.growth,
+        &mut rerouting.flows,
+    )?;
+    Ok(flow_on_exits(state, &rerouting.along, exits, &rerouting.flows))
 }
 
 /// What flows on the exits.

@@ -23,3 +23,9 @@ returns-clause-left c = record {
   is = omega (arith, c.loop-left.invariant.left, c.loop-left-test.false);
   held = λ some. absurd (omega (arith, some));
 }
+
+-- What was moved is taken off what was left.
+pub more_off-requires-clause-left : goal.more_off-requires-clause-left
+more_off-requires-clause-left c =
+    let moved = c.in_ok-moved.ensures.moved in
+    omega (arith, moved.moves, c.loop-left.invariant.left)

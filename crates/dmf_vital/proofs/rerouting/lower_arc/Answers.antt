@@ -1,6 +1,5 @@
-use Rattle.std.proofs.Common.{ℕ, ◌≡◌, true, ap, subst, ◌∙◌, sym}
+use Rattle.std.proofs.Common.{ap, subst, ◌∙◌, sym}
 use Rattle.dmf_state.specs.declared.arc.Arc.{Arc}
-use Rattle.dmf_state.specs.Flow.{flow_on}
 use Rattle.dmf_vital.specs.Loss.{IsLossOfArc}
 use Rattle.dmf_vital.proofs.Lost.{are-exits_of_arc, exit_flow-arc, if-ok, lost-arc}
 use Rattle.dmf_vital.proofs.rerouting.lower_arc.Goals as goal

@@ -1,30 +1,5 @@
 -- `flag` lends what the stop owns.
-use Rattle.std.proofs.Common.{◌≡◌, ℕ, List, [], ◌∷◌, refl, sym, ap, ◌∙◌}
-use seplogic.Ra.Ura.{Ura}
-use base.Fraction.{full_share}
-use base.Logic.{ent, sep, never, fst∗, id⊢}
-use base.Fml.{Fml, GName, ftrue, fsep, flft}
-use mir.Syntax.{named}
-use mir.Val.{Val, vptr}
-use mir.Raw.{raw as bare}
-use types.Logic.{Logic, sem}
-use types.Kit.{‵, raw, ◌⊛◌, some, later, at_ret, ◌$◌, ◌∵◌, !, qed, done, move, keep, use1, split, join, fsplit, fsplit3, fjoin, fpack, pick, await, rewrite, split3, suffices, frame, group}
-use types.Part.{whole, sub, look_in}
-use types.Run.{enter, of_opd, addr, load, stop, fld, first, blocks, exec, returns}
-use types.ByLocal.{alloc_all, pass_all, free_all, look_at, get, through, sets, sets_last, env}
-use contract.Running.{tables}
-use denote.Exit.{no}
-use denote.Follow.{follows, Part, lends_Part}
-use denote.Laws.{shows}
-use denote.Memory.{mem, cell_at, part_at, lone, part_of}
-use denote.RawPtr.{Ptr, block_ptr, null_ptr, in_a_block}
-use denote.Ref.{MutBor, MutRef, mut_vals, mut_Tells}
-use denote.Signature.{plain, mut_ref_to}
-use denote.Steps.{nothing, opens, peeks}
-use denote.Triple.Walked.{says, Stays, stay_dropped, walk_of, ends_at, Goes-spent_ref}
-use Rattle.std.specs.Box.Ownership.{box_owns}
-use Rattle.std.specs.contracts.impls.GlobalAllocator.TheImpl.{ghosts}
-use Rattle.std.proofs.raw_atomic.Walks.{proved}
+use Rattle.dmf_c.proofs.Steps.{◌≡◌, ℕ, List, [], ◌∷◌, refl, sym, ap, ◌∙◌, Ura, full_share, ent, sep, never, fst∗, id⊢, Fml, GName, ftrue, fsep, flft, named, Val, vptr, bare, Logic, sem, ‵, raw, ◌⊛◌, some, later, at_ret, ◌$◌, ◌∵◌, !, qed, done, move, keep, use1, split, join, fsplit, fsplit3, fjoin, fpack, pick, await, rewrite, split3, suffices, frame, group, whole, sub, look_in, enter, of_opd, addr, load, stop, fld, first, blocks, exec, returns, alloc_all, pass_all, free_all, look_at, get, through, sets, sets_last, env, tables, no, follows, Part, lends_Part, shows, mem, cell_at, part_at, lone, part_of, Ptr, block_ptr, null_ptr, in_a_block, MutBor, MutRef, mut_vals, mut_Tells, plain, mut_ref_to, nothing, opens, peeks, says, Stays, stay_dropped, walk_of, ends_at, Goes-spent_ref, box_owns, ghosts, proved}
 use Rattle.std.proofs.VecSteps.Shapes.{after}
 use Rattle.dmf_c.specs.contracts.flag.Flag.{the_row as T}
 use Rattle.dmf_c.specs.declared.stop.Stop.{Stop}
