@@ -18,7 +18,7 @@ pub struct Buckets {
 }
 
 impl Buckets {
-    /// Buckets without nodes, for so many labels and nodes.
+    /// Buckets without nodes, for nodes and labels less than `size`.
     pub fn new(alloc: Global, size: usize) -> Result<Buckets, NoMemory> {
         Ok(Buckets {
             first: vec![in alloc; 0u32; size]?,

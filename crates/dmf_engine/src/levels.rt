@@ -104,7 +104,7 @@ impl Levels {
         read(&self.labels, node, 0)
     }
 
-    /// Labels the next level's nodes to which excess can leave a node, and answers how much can.
+    /// Labels the next level's nodes to which excess can leave a node, and returns how much can.
     fn reach(
         &mut self,
         links: &PackedLinks,

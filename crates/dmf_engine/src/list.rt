@@ -80,7 +80,7 @@ pub struct Row {
 }
 
 impl Row {
-    /// An empty list with room for so many items.
+    /// An empty list with room for `most` items.
     pub fn new(alloc: Global, most: usize) -> Result<Row, NoMemory> {
         Ok(Row {
             items: vec![in alloc; 0u32; most]?,
@@ -126,7 +126,7 @@ pub struct Ring {
 }
 
 impl Ring {
-    /// An empty queue with room for all but one of so many nodes.
+    /// An empty queue with `size` places, one of which always stays free.
     pub fn new(alloc: Global, size: usize) -> Result<Ring, NoMemory> {
         Ok(Ring {
             items: vec![in alloc; 0u32; size]?,

@@ -40,7 +40,7 @@ pub struct Members {
     first: u32,
     last: u32,
     /// The node whose links are looked at, or 0.
-    pub held: u32,
+    pub current: u32,
     /// Whether it became active again since.
     pub is_woken: bool,
 }
@@ -53,7 +53,7 @@ impl Members {
             is_behind: vec![in alloc; false; size]?,
             first: 0,
             last: 0,
-            held: 0,
+            current: 0,
             is_woken: false,
         })
     }
@@ -93,7 +93,7 @@ impl Members {
     /// Makes a node active, unless it is.
     #[inline(always)]
     pub fn wake(&mut self, node: u32) {
-        if node == self.held {
+        if node == self.current {
             self.is_woken = true;
         }
         if self.at(node).next != 0 {
@@ -108,21 +108,21 @@ impl Members {
         self.last = node;
     }
 
-    /// Makes a node the one whose links are looked at next.
-    pub fn hold(&mut self, node: u32) {
+    /// Makes a node the current one: its links are looked at next.
+    pub fn keep(&mut self, node: u32) {
         self.set_next(node, node);
-        self.held = node;
+        self.current = node;
     }
 
-    /// The node that is held, or else the next active one that is in a tree; 0 if there is none.
+    /// Returns the current node if it is still in a tree, or else the next active one that is; 0 if there is none.
     pub fn take_active(&mut self) -> u32 {
-        let held = self.held;
-        if held != 0 {
-            self.set_next(held, 0);
-            if self.at(held).parent != FREE {
-                return held;
+        let current = self.current;
+        if current != 0 {
+            self.set_next(current, 0);
+            if self.at(current).parent != FREE {
+                return current;
             }
-            self.held = 0;
+            self.current = 0;
         }
         for _ in 0..self.all.len() {
             let node = self.first;

@@ -21,7 +21,7 @@ pub struct Trees {
     /// How many looks and steps may still be taken.
     pub left: u64,
     nodes: u32,
-    /// Where the links of the node that is held are looked at next.
+    /// Where the links of the current node are looked at next.
     place: u32,
 }
 
@@ -43,7 +43,7 @@ impl Trees {
         Ok(trees)
     }
 
-    /// Sends flow over the paths on which the trees meet. `true` once no path is left, and `false` if so many looks were taken before.
+    /// Sends flow over the paths on which the trees meet. Returns `true` once no path is left, or `false` if it stopped after `most` looks.
     pub fn send_all(&mut self, links: &mut PackedLinks, most: u64) -> bool {
         self.left = most;
         for _ in 0..most {
@@ -53,9 +53,9 @@ impl Trees {
             }
             let meeting = self.expand(links, node);
             if meeting == FREE {
-                self.members.held = 0;
+                self.members.current = 0;
             } else {
-                self.members.hold(node);
+                self.members.keep(node);
                 self.send(links, meeting);
                 self.adopt_all(links);
             }
@@ -97,7 +97,7 @@ impl Trees {
     fn expand(&mut self, links: &PackedLinks, node: u32) -> u32 {
         let own = self.members.at(node);
         let is_behind = self.members.is_behind(node);
-        let goes_on = node == self.members.held && !self.members.is_woken;
+        let goes_on = node == self.members.current && !self.members.is_woken;
         let start = if goes_on {
             self.place
         } else {
