@@ -153,17 +153,18 @@ def test_decided() -> None:
 
 
 def test_layers() -> None:
-    uses = draw_layers.read_uses(draw_layers.LIST.read_text())
-    assert not [*draw_layers.faults(uses)]
+    crates = draw_layers.read_crates(draw_layers.LIST.read_text())
+    assert not [*draw_layers.faults(crates)] and len(crates.layers) == 7
     drawn = ROOT / "docs" / "pictures" / "layers.dot"
-    assert drawn.read_text() == "\n".join(draw_layers.graph(uses)) + "\n"
+    assert drawn.read_text() == "\n".join(draw_layers.graph(crates)) + "\n"
 
 
-def test_wrong_layers() -> None:
-    """A crate without a layer, and one that uses a crate of a higher layer."""
-    uses = draw_layers.read_uses(draw_layers.LIST.read_text())
-    assert [*draw_layers.faults({**uses, "dmf_other": set()})]
-    higher = {**uses, "dmf_text": uses["dmf_text"] | {"dmf_session"}}
-    assert [*draw_layers.faults(higher)] == [
-        "dmf_text uses dmf_session, which is in a higher layer"
-    ]
+@pytest.mark.parametrize(
+    ("text", "fault"),
+    [
+        ("low:\n## core\nhigh: low\n", "low is under no heading"),
+        ("## core\nlow: high\n## text\nhigh:\n", "low uses high, which is in a higher layer"),
+    ],
+)
+def test_wrong_layers(text: str, fault: str) -> None:
+    assert [*draw_layers.faults(draw_layers.read_crates(text))] == [fault]
