@@ -99,6 +99,11 @@ def build(name: str, *more: str) -> Path:
     return program
 
 
+def usual_arcs(family: str) -> int:
+    """Return how many arcs a family's network has where sessions are measured."""
+    return 360_000 if family == "street" else 1_000_000
+
+
 def network(family: str, arcs: int) -> Path:
     """Return the file of a network. It is made if it is missing or its generator has changed."""
     # Imported here: it takes 4 MB, which bench/client would count as Python's.
