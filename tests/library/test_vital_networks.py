@@ -17,8 +17,9 @@ __all__ = ["generate"]
 # In the gate, and by --long; the first seed.
 NETWORKS, MANY, SEED = 300, 200_000, 1990
 ARCS, MANY_ARCS = 300, 3_000
-# The least number of values that are compared on a random network, in the mean.
-VALUES = 1_000
+# The least number of values that are compared on a random network, in the mean, and of how many
+# networks one has flow that goes round in a cycle.
+VALUES, WITH_CYCLE = 1_000, 20
 
 
 @pytest.fixture(scope="module")
@@ -29,16 +30,19 @@ def program(tmp_path_factory: pytest.TempPathFactory) -> Path:
     )
 
 
-def compared(program: Path, *words: str, problem: bytes = b"") -> int:
-    """How many values were compared, none of which differs."""
+def compared(program: Path, *words: str, problem: bytes = b"") -> tuple[int, int]:
+    """How many values were compared, none of which differs, and in how many networks flow went
+    round in a cycle."""
     ran = subprocess.run([program, *words], input=problem, capture_output=True)
     assert ran.returncode == 0, ran.stdout + ran.stderr
-    return int(ran.stdout)
+    values, cycles = map(int, ran.stdout.split())
+    return values, cycles
 
 
 def test_random_networks(request: pytest.FixtureRequest, program: Path) -> None:
     count = MANY if request.config.getoption("--long") else NETWORKS
-    assert compared(program, str(count), str(SEED)) >= VALUES * count
+    values, cycles = compared(program, str(count), str(SEED))
+    assert values >= VALUES * count and cycles * WITH_CYCLE >= count
 
 
 @pytest.mark.parametrize("family", FAMILIES)
@@ -48,4 +52,5 @@ def test_families(
     """Each arc, each node and each second arc is compared."""
     problem = generate(family, MANY_ARCS if request.config.getoption("--long") else ARCS)
     nodes, arcs = map(int, problem.split()[2:4])
-    assert compared(program, problem=problem) > 2 * arcs + nodes
+    values, _ = compared(program, problem=problem)
+    assert values > 2 * arcs + nodes

@@ -1,10 +1,11 @@
 /* Random networks of at most 40 arcs, each in a session: the worth of every arc, node and pair, lists of the worst, and what second and new
  * arcs bring, beside whole solves by this program's own augmenting paths. Or one problem from standard input, however large: the same
- * without pairs and new arcs. Usage: vital_networks NETWORKS SEED, or vital_networks <PROBLEM. Prints how many values were compared,
- * or the first that differs and its network, and then ends with 1.
+ * without pairs and new arcs. Usage: vital_networks NETWORKS SEED, or vital_networks <PROBLEM. Prints how many values were compared
+ * and in how many networks flow went round in a cycle, or the first value that differs and its network, and then ends with 1.
  *
  * The random networks have self loops, parallel arcs, arcs into the source and out of the sink, closed arcs, and capacities that are 0, small,
- * large, or add up to 2^64 - 1. Half of them are solved, changed and solved again. */
+ * large, or add up to 2^64 - 1. Half of them are solved, changed and solved again, some times. One
+ * of eight is solved step by step such that flow goes round in a cycle. */
 #include "../../bench/dimacs.hpp"
 #include "whole_solves.hpp"
 
@@ -21,7 +22,7 @@
 namespace {
 
 std::mt19937_64 drawn;
-Number compared = 0;
+Number compared = 0, with_cycle = 0;
 
 Number draw(Number limit) { return drawn() % limit; }
 
@@ -96,24 +97,86 @@ dmf_session *opened(const Network &network)
     return session;
 }
 
+/* How much may be added to the capacity of one arc. */
+Number room(const Network &network)
+{
+    Number left = UINT64_MAX;
+    for (const Arc &arc : network.arcs)
+        left -= arc.capacity;
+    return left;
+}
+
 /* Some changes, and a solve. */
 void change(dmf_session *session, Network &network)
 {
     for (Number more = draw(6); more > 0 && !network.arcs.empty(); more--) {
         const std::size_t index = draw(network.arcs.size());
         Arc &arc = network.arcs[index];
+        const Number act = draw(3);
         if (arc.closed)
             continue;
-        if (draw(2) == 0) {
+        if (act == 0) {
             want(dmf_session_close(session, index + 1), network, "closing");
             arc.closed = true;
             arc.capacity = 0;
         } else {
-            arc.capacity /= 1 + draw(3);
+            arc.capacity = act == 1 ? arc.capacity / (1 + draw(3)) : arc.capacity + std::min(room(network), draw(4));
             want(dmf_session_cap(session, index + 1, arc.capacity), network, "another capacity");
         }
     }
     want(dmf_session_solve(session), network, "solving again");
+}
+
+/* A ring of inner nodes between which a path leads from the source to the sink at each step round it, and some more arcs. The capacities of
+ * the first paths come first, so that the flow on the ring is a cycle unless the other arcs give it another way. */
+Network ring_network()
+{
+    const auto length = static_cast<std::uint32_t>(3 + draw(3));
+    Network network{length + 2, length + 1, length + 2, {}};
+    const Number capacity = 1 + draw(3);
+    for (std::uint32_t v = 1; v <= length; v++) {
+        const std::uint32_t next = v % length + 1;
+        network.arcs.push_back({network.source, v, capacity, false});
+        network.arcs.push_back({v, next, capacity, false});
+        network.arcs.push_back({next, network.sink, capacity, false});
+    }
+    for (Number more = draw(8); more > 0; more--)
+        network.arcs.push_back({draw_node(network.nodes), draw_node(network.nodes), draw(3), false});
+    return network;
+}
+
+/* Opens the network without the capacities of its first arcs, gives these back path by path, and solves each time. */
+dmf_session *opened_in_steps(const Network &network)
+{
+    const std::size_t last = 3 * (network.nodes - 2);
+    Network before = network;
+    for (std::size_t i = 0; i < last; i++)
+        before.arcs[i].capacity = 0;
+    dmf_session *session = opened(before);
+    for (std::size_t i = 0; i < last; i++) {
+        want(dmf_session_cap(session, static_cast<std::uint32_t>(i + 1), network.arcs[i].capacity), network, "a capacity back");
+        if (i % 3 == 2)
+            want(dmf_session_solve(session), network, "solving again");
+    }
+    return session;
+}
+
+/* Whether some of the flow goes round in a cycle: whether nodes are left once those that no arc with flow enters are taken away, and all
+ * arcs out of them. */
+bool has_cycle(const dmf_session *session, const Network &network)
+{
+    Values flows(network.arcs.size());
+    want(dmf_session_flows(session, flows.data(), flows.size()), network, "flows");
+    std::vector<bool> is_left(network.nodes + 1, true);
+    for (bool is_changed = true; is_changed;) {
+        std::vector<bool> is_entered(network.nodes + 1, false);
+        for (std::size_t i = 0; i < flows.size(); i++)
+            if (flows[i] > 0 && is_left[network.arcs[i].tail])
+                is_entered[network.arcs[i].head] = true;
+        is_changed = is_entered != is_left;
+        is_left = is_entered;
+    }
+    return std::find(is_left.begin(), is_left.end(), true) != is_left.end();
 }
 
 /* ---- What is lost -------------------------------------------------------------------------------------------------- */
@@ -323,11 +386,15 @@ void compare_problem(const Network &network)
     dmf_session_free(session);
 }
 
-void compare_random(Network network)
+void compare_random()
 {
-    dmf_session *session = opened(network);
-    if (draw(2) == 0)
-        change(session, network);
+    const bool is_ring = draw(8) == 0;
+    Network network = is_ring ? ring_network() : random_network();
+    dmf_session *session = is_ring ? opened_in_steps(network) : opened(network);
+    if (!is_ring)
+        for (Number rounds = draw(2) * draw(4); rounds > 0; rounds--)
+            change(session, network);
+    with_cycle += has_cycle(session, network);
     const Number value = value_of(network);
     compare_parts(session, network, value);
     compare_pairs(session, network, value);
@@ -344,11 +411,11 @@ int main(int count, char **words)
     } else if (count == 3) {
         drawn.seed(std::strtoull(words[2], nullptr, 10));
         for (Number left = std::strtoull(words[1], nullptr, 10); left > 0; left--)
-            compare_random(random_network());
+            compare_random();
     } else {
         std::fprintf(stderr, "usage: vital_networks NETWORKS SEED, or vital_networks <PROBLEM\n");
         return 2;
     }
-    std::printf("%llu\n", static_cast<unsigned long long>(compared));
+    std::printf("%llu %llu\n", static_cast<unsigned long long>(compared), static_cast<unsigned long long>(with_cycle));
     return 0;
 }
