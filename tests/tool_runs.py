@@ -31,6 +31,8 @@ MODULES = (
     "csv",
     "difflib",
     "dmf.tools.dot",
+    "dmf.tools.drawn_answer",
+    "dmf.tools.named_answer",
     "dmf.tools.names",
     "dmf.tools.options",
     "dmf.tools.problem",
