@@ -167,8 +167,8 @@ def test_interrupt(generate: Generate, word: str, tmp_path: Path) -> None:
 
 
 def told(problems: dict[str, bytes], *words: str) -> dict[str, bytes]:
-    """What runs tell by `--progress`, all at once. Each has read the text, and waits a while for its
-    end, so that the first path is told."""
+    """What runs tell by `--progress`, all at once. Each has read the text and waits for its end for
+    a while, so that the first path is told."""
     runs = {}
     for name, problem in problems.items():
         run = subprocess.Popen(
