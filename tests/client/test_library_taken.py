@@ -147,7 +147,8 @@ def test_one_of_a_repository(tmp_path: Path, changed: str) -> None:
     for name in "DMF", "DMF_LIBRARY":
         variables.pop(name, None)
     found = []
-    for newer in [], [proof], [tmp_path / changed]:
+    changes: list[list[Path]] = [[], [proof], [tmp_path / changed]]
+    for newer in changes:
         for file in newer:
             os.utime(file, (later, later))
         ran = subprocess.run(
