@@ -8,11 +8,13 @@ import time
 from collections.abc import Callable, Iterator
 from typing import Any
 
+from limits import SECONDS
+
 # A name that the browser takes for this machine, under which a page is no secure context.
 OTHER_NAME = "board.example"
-# How long the page is waited for, in seconds, and how long one script may run: less than the two
-# minutes for which selenium waits for an answer of the browser.
-SECONDS, SCRIPT_SECONDS = 300, 100
+# How long one script may run, in seconds: less than the two minutes for which selenium waits for an
+# answer of the browser.
+SCRIPT_SECONDS = 100
 # How often a browser is started that does not come up, as happens on a loaded machine.
 STARTS = 3
 # How long it is waited before the page is asked again whether something is so, at first and at

@@ -13,8 +13,9 @@ from typing import Any, Optional
 from urllib.parse import urlsplit
 
 from built import heed_interrupts
-from desk_shared import ROOT, SECONDS, sessions_of
+from desk_shared import ROOT, sessions_of
 from dmf.desk.board.connections import AFTER_BREAK
+from limits import SECONDS
 
 JSON = {"Content-Type": "application/json"}
 

@@ -2,12 +2,10 @@
 that stand in for dmf."""
 
 import contextlib
-import fcntl
 import os
 import signal
 import subprocess
 import tempfile
-import termios
 import time
 from collections.abc import Callable, Iterable, Iterator
 from typing import Any
@@ -116,12 +114,6 @@ def stop(process: int) -> None:
 def environment(**more: str) -> dict[str, str]:
     """The variables of a process that uses the package of this checkout."""
     return {**os.environ, "PYTHONPATH": CLIENT, **more}
-
-
-def is_asked(process: int) -> bool:
-    """Return True if a program that does not read has a command to read."""
-    with open(f"/proc/{process}/fd/0", "rb") as pipe:
-        return any(fcntl.ioctl(pipe, termios.FIONREAD, bytes(4)))
 
 
 def has_written(file: str) -> Callable[[], bool]:

@@ -4,23 +4,20 @@ tools are run on it."""
 from __future__ import annotations
 
 import contextlib
-import fcntl
 import os
 import re
 import signal
 import subprocess
-import termios
-import time
 from itertools import combinations, product
 from pathlib import Path
 from typing import NamedTuple
 
 from dmf.desk.workspace import Desk
 from dmf.tables.loader import LoadedProblem
+from limits import SECONDS
 
 ROOT = Path(__file__).resolve().parents[1]
 PIPES = "examples/water/pipes.csv"
-SECONDS = 120
 # The story of examples/water: the greatest values of the plan of today, with Market Street wider,
 # with a new pipe, without the Market link and without the Bridge pipe, as its page reckons them
 # from the limits.
@@ -126,15 +123,6 @@ def stop_session(session: int) -> None:
     os.kill(session, signal.SIGSTOP)
     while b") T " not in (Path("/proc") / str(session) / "stat").read_bytes():
         os.sched_yield()
-
-
-def wait_until_asked(session: int) -> None:
-    """Waits until a session that is stopped has a command to read."""
-    until = time.monotonic() + SECONDS
-    with open(f"/proc/{session}/fd/0", "rb") as pipe:
-        while not any(fcntl.ioctl(pipe, termios.FIONREAD, bytes(4))):
-            assert time.monotonic() < until, "nothing asks the session"
-            time.sleep(0.01)
 
 
 def water_problem() -> bytes:

@@ -10,7 +10,7 @@ from fractions import Fraction
 from pathlib import Path
 
 from built import BUILT
-from desk_shared import SECONDS, run
+from desk_shared import run
 from her_table import (
     GIVEN,
     INNER,
@@ -25,6 +25,7 @@ from her_table import (
     number,
     told,
 )
+from limits import SECONDS
 
 
 def put_problem(folder: Path) -> None:

@@ -8,9 +8,10 @@ import sys
 from pathlib import Path
 from typing import NamedTuple
 
-from desk_shared import ROOT, SECONDS
+from desk_shared import ROOT
 from dmf.desk.project.comparison import OPEN, ArcState
 from dmf.text.problem_text import read_problem
+from limits import SECONDS
 
 
 class Played(NamedTuple):

@@ -16,7 +16,9 @@ from typing import IO
 
 from built import BUILT, heed_interrupts
 from limits import SECONDS
+from tool_runs import wait_until_asleep
 
+# Longer than the program is silent about a task, in seconds.
 PAUSE = 0.8
 
 
@@ -66,6 +68,14 @@ class Terminal:
             time.sleep(0.05)
         return False
 
+    def wait_until_taken(self, process: int) -> None:
+        """Waits until a program has read the whole lines that were typed, and reads on."""
+        until = time.monotonic() + SECONDS
+        while any(fcntl.ioctl(self.end, termios.FIONREAD, bytes(4))):
+            assert time.monotonic() < until, "what was typed is not read"
+            time.sleep(0.01)
+        wait_until_asleep(process)
+
     def type(self, text: bytes) -> None:
         os.write(self.own, text)
 
@@ -113,12 +123,13 @@ def without_terminal(words: Sequence[str], given: bytes | IO[bytes]) -> tuple[in
 
 def typed(words: Sequence[str], lines: Sequence[bytes], pause: float = PAUSE) -> tuple[int, str]:
     """Runs the program with all its standard streams on a terminal, at which each line is typed
-    after a pause. Gives its status and what the terminal got."""
+    after a pause in which the program waits for it. Gives its status and what the terminal got."""
     with Terminal() as terminal:
         running = subprocess.Popen(
             [BUILT, *words], stdin=terminal.end, stdout=terminal.end, stderr=terminal.end
         )
         for line in lines:
+            terminal.wait_until_taken(running.pid)
             time.sleep(pause)
             terminal.type(line)
         terminal.type(b"\x04")

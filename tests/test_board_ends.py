@@ -20,13 +20,15 @@ from typing import Any
 import pytest
 from board_running import Board, board
 from built import BUILT
-from desk_shared import PIPES, SECONDS, run, stop_session, wait_until_asked
+from desk_shared import PIPES, run, stop_session
 from dmf import Network
 from dmf.desk import seconds as desk_seconds
 from dmf.desk.board.responses import Response
 from dmf.desk.board.routes import Board as InBoard
 from dmf.desk.workspace import Desk
 from dmf.tables.loader import LoadedProblem
+from limits import SECONDS
+from tool_runs import wait_until_asked
 
 
 def test_ends() -> None:

@@ -11,7 +11,6 @@ from typing import Any
 import pytest
 from board_running import Board as Running
 from built import BUILT
-from desk_shared import SECONDS
 from dmf.desk import answers as desk_first
 from dmf.desk.analysis import trials_of
 from dmf.desk.board.responses import Response
@@ -19,6 +18,7 @@ from dmf.desk.board.routes import Board
 from dmf.desk.workspace import Desk
 from dmf.errors import NoProgram
 from dmf.tables.loader import LoadedProblem
+from limits import SECONDS
 from test_board_nearby import square
 
 # Requests that change nothing, and such that do or try something.

@@ -9,8 +9,9 @@ from collections.abc import Iterator
 
 import pytest
 from board_running import JSON, board
-from desk_shared import PIPES, SECONDS
+from desk_shared import PIPES
 from dmf.desk.board.connections import AFTER_BREAK, AFTER_PAGE, AFTER_REQUEST, LivePages
+from limits import SECONDS
 
 
 class Room:

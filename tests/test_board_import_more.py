@@ -18,11 +18,11 @@ from typing import Any
 import pytest
 from board_running import Board, board
 from conftest import ROOT
-from desk_shared import SECONDS
 from dmf.desk.board.import_options import nothing_said
 from dmf.desk.board.stopping import Stoppable, Stopped
 from import_pages import CAPACITY, DROP, TODAY, VALLEY, ImportPage
 from import_requests import asked, sent
+from limits import SECONDS
 from packages import load
 
 openpyxl: Any = load("openpyxl")

@@ -13,7 +13,8 @@ from board_pages import Page, dialog
 from board_running import Board as Running
 from board_running import board
 from board_views import SCALE, grid_table, spots
-from desk_shared import PIPES, SECONDS
+from desk_shared import PIPES
+from limits import SECONDS
 from test_board_access import as_before, show
 from test_board_moved import MIDDLES, move, node_of
 

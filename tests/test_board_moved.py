@@ -15,11 +15,12 @@ from board_pages import Page, set_width
 from board_running import Board as Running
 from board_running import board
 from board_views import SCALE, spots
-from desk_shared import PIPES, ROOT, SECONDS
+from desk_shared import PIPES, ROOT
 from dmf.desk.board.routes import Board
 from dmf.desk.project.opener import project_desk
 from dmf.desk.project.scenarios import project_of
 from dmf.desk.project.storage import ProjectFile
+from limits import SECONDS
 from project_shared import water_project
 from test_board_access import as_before, show
 from test_board_ground import city

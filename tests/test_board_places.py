@@ -15,7 +15,8 @@ from xml.etree import ElementTree
 import pytest
 from board_running import board
 from board_views import grid_table, spots
-from desk_shared import PIPES, ROOT, SECONDS
+from desk_shared import PIPES, ROOT
+from limits import SECONDS
 from test_board_ground import city
 
 pytestmark = pytest.mark.seconds(10)

@@ -12,9 +12,10 @@ from typing import Any
 import pytest
 from board_pages import Page
 from board_running import board
-from desk_shared import PIPES, SECONDS
+from desk_shared import PIPES
 from dmf.desk.project import printed_report
 from dmf.desk.steps import DeskFault
+from limits import SECONDS
 from test_board_access import as_before
 
 pytestmark = pytest.mark.seconds(30)

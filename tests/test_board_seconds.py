@@ -16,11 +16,12 @@ from typing import Any
 import pytest
 from board_pages import Page
 from board_running import Board, board
-from desk_shared import PIPES, SECONDS, sessions_of, swept
+from desk_shared import PIPES, sessions_of, swept
 from dmf.desk.board import second_sweeps
 from dmf.desk.board.routes import Board as InBoard
 from dmf.desk.workspace import Desk
 from dmf.tables.loader import TableOptions, subject_of
+from limits import SECONDS
 
 QUESTION = "What would a second one bring?"
 NOTHING = "A second one of any of them alone brings nothing."

@@ -7,7 +7,8 @@ from typing import Any
 import pytest
 from board_pages import Page
 from board_running import board
-from desk_shared import PIPES, Pipe, greatest, stop_session, wait_until_asked, water, without
+from desk_shared import PIPES, Pipe, greatest, stop_session, water, without
+from tool_runs import wait_until_asked
 from tunnels import tunnel
 
 pytestmark = pytest.mark.seconds(20)

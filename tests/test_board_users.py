@@ -17,7 +17,8 @@ from urllib.parse import urlsplit
 import pytest
 from board_running import Board, board
 from built import heed_interrupts
-from desk_shared import PIPES, ROOT, SECONDS, run
+from desk_shared import PIPES, ROOT, run
+from limits import SECONDS
 
 # Who others are, in these tests: nobody, on most systems.
 NOBODY = 65_534

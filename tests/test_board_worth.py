@@ -14,7 +14,8 @@ from board_running import Board, board
 from built import heed_interrupts
 from c_library import library_file
 from client_shared import BUILT, is_running, script
-from desk_shared import PIPES, SECONDS, Pipe, greatest, swept, water
+from desk_shared import PIPES, Pipe, greatest, swept, water
+from limits import SECONDS
 
 NAMES = [pipe.name for pipe in water()]
 # A program whose `vital` waits, and tells its process first.

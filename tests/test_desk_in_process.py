@@ -13,8 +13,9 @@ import dmf
 import pytest
 from board_running import Board, board
 from c_library import library_folder
-from desk_shared import PIPES, SCRIPT, SECONDS, STORY, desk_of, run, swept, water_problem
+from desk_shared import PIPES, SCRIPT, STORY, desk_of, run, swept, water_problem
 from dmf.session import library as loaded
+from limits import SECONDS
 
 WAYS = {"library": str(library_folder() / "libdmf.so.0"), "pipe": ""}
 

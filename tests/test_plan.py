@@ -9,22 +9,12 @@ from pathlib import Path
 from typing import cast
 
 import pytest
-from desk_shared import (
-    PIPES,
-    ROOT,
-    SECONDS,
-    Pipe,
-    desk_of,
-    greatest,
-    run,
-    swept,
-    water,
-    water_problem,
-)
+from desk_shared import PIPES, ROOT, Pipe, desk_of, greatest, run, swept, water, water_problem
 from dmf.desk.analysis import trials_of
 from dmf.desk.plan.arguments import capped
 from dmf.desk.plan.shell import Shell
 from dmf.desk.steps import DeskFault, Place
+from limits import SECONDS
 
 WATER = water_problem()
 # With the Mill's two nodes as comments tell them.

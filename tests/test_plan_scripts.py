@@ -11,7 +11,6 @@ from desk_shared import (
     PIPES,
     ROOT,
     SCRIPT,
-    SECONDS,
     STORY,
     Pipe,
     greatest,
@@ -21,6 +20,7 @@ from desk_shared import (
     water,
     without,
 )
+from limits import SECONDS
 
 # Lines that are refused before a solve, and what is said of each.
 LINES = {

@@ -15,19 +15,18 @@ import pytest
 from desk_shared import (
     PIPES,
     ROOT,
-    SECONDS,
     desk_of,
     end_session,
     sessions_of,
     stop_session,
-    wait_until_asked,
     water,
     water_problem,
     without,
 )
 from dmf import Network
 from dmf.desk.plan.shell import Shell
-from tool_runs import wait_until_asleep
+from limits import SECONDS
+from tool_runs import wait_until_asked, wait_until_asleep
 
 WATER = water_problem()
 

@@ -18,6 +18,8 @@ from pathlib import Path
 from types import CodeType
 from typing import NamedTuple, NoReturn, Union
 
+from limits import SECONDS
+
 ROOT = Path(__file__).resolve().parents[1]
 STREAMS = {
     "stdin": os.O_RDONLY,
@@ -29,6 +31,8 @@ MODULES = (
     "csv",
     "difflib",
     "dmf.tools.dot",
+    "dmf.tools.drawn_answer",
+    "dmf.tools.named_answer",
     "dmf.tools.names",
     "dmf.tools.options",
     "dmf.tools.problem",
@@ -62,6 +66,20 @@ def wait_until_asleep(process: int) -> None:
     """
     while Path(f"/proc/{process}/stat").read_bytes().rpartition(b") ")[2][:1] not in b"SZX":
         time.sleep(0.001)
+
+
+def is_asked(process: int) -> bool:
+    """Return True if a process that does not read has something to read on standard input."""
+    with open(f"/proc/{process}/fd/0", "rb") as given:
+        return any(fcntl.ioctl(given, termios.FIONREAD, bytes(4)))
+
+
+def wait_until_asked(session: int) -> None:
+    """Waits until a session that is stopped has a command to read."""
+    until = time.monotonic() + SECONDS
+    while not is_asked(session):
+        assert time.monotonic() < until, "nothing asks the session"
+        time.sleep(0.01)
 
 
 def wait_until_read(tool: subprocess.Popen[bytes]) -> None:

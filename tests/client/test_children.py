@@ -8,6 +8,7 @@ from collections.abc import Callable
 
 import pytest
 from client_shared import CLIENT, answering, dmf, pipes, script
+from dmf.session import executable
 from limits import SECONDS
 
 
@@ -71,8 +72,9 @@ def test_much_on_standard_error() -> None:
     assert ended(f"{much}; exit 1") == f"dmf ended with status 1: {'x' * 65536}"
 
 
-def test_it_answers_no_more_and_does_not_end() -> None:
-    wanted = "dmf closed its input or its output and was killed"
+def test_it_answers_no_more_and_does_not_end(monkeypatch: pytest.MonkeyPatch) -> None:
+    monkeypatch.setattr(executable, "SECONDS", 1)
+    wanted = "dmf closed its input or its output, did not end within 1 seconds and was killed"
     assert ended("exec sleep 60 >&-") == wanted
     assert ended("exec sleep 60 <&- >&-") == wanted
 

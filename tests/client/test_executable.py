@@ -15,6 +15,7 @@ from pathlib import Path
 
 import pytest
 from client_shared import BUILT, CLIENT, PIPES, ROOT, dmf, pipes, script
+from dmf.session import executable
 from limits import SECONDS
 
 REAL = f'#!/bin/sh\nexec {BUILT} "$@"\n'
@@ -241,6 +242,18 @@ def test_another_program() -> None:
         assert refused(program).startswith(
             f"{needs}: the session was ended, since dmf's answer to `undo 0` was not understood"
         )
+
+
+def test_a_program_that_does_not_answer(monkeypatch: pytest.MonkeyPatch) -> None:
+    """A slow machine is no reason to call a program another one."""
+    monkeypatch.setattr(executable, "SECONDS", 1)
+    with script('[ "$1" != --version ] || exec sleep 60; exit 9') as program:
+        assert refused(program) == (
+            "did not print its version within 1 seconds, so it may not be dmf; "
+            f"{NEEDS}: dmf ended with status 9"
+        )
+    with script(f'[ "$1" != --version ] || exec sleep 60; exec {BUILT} "$@"') as program:
+        assert pipes(program=program).solve().value == 5
 
 
 def test_the_right_program_that_fails() -> None:

@@ -22,17 +22,15 @@ from client_shared import (
     ends,
     has_written,
     interrupted_when,
-    is_asked,
     is_running,
     pipes,
     process_of,
     script,
     stop,
 )
-from desk_shared import wait_until_asked
 from dmf import session_holder as running
 from limits import SECONDS
-from tool_runs import wait_until_asleep
+from tool_runs import is_asked, wait_until_asked, wait_until_asleep
 
 
 @contextlib.contextmanager

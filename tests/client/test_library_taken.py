@@ -4,6 +4,7 @@ be used."""
 from __future__ import annotations
 
 import ctypes
+import os
 import re
 import shutil
 import subprocess
@@ -25,8 +26,9 @@ sys.addaudithook(lambda event, _: begun.append(event) if event in PROCESSES else
 import dmf
 network = dmf.Network([("a", "b", 3), ("b", "c", 2)], "a", "c")
 print(network.solve().value, dmf.value({"a": {"b": 3}, "b": {"c": 2}}, "a", "c"), begun)
-UNWANTED = "dataclasses", "decimal", "inspect", "numpy", "queue", "subprocess", "tempfile"
-print({*UNWANTED, "threading"} & {*sys.modules})
+UNWANTED = "dataclasses", "decimal", "heapq", "inspect", "numpy", "queue", "subprocess", "tempfile"
+OWN = "dmf.graph_flows", "dmf.unbounded_arcs"
+print({*UNWANTED, *OWN, "threading"} & {*sys.modules})
 """
 pytestmark = pytest.mark.usefixtures("by_library")
 
@@ -123,6 +125,41 @@ def test_one_that_is_found_and_cannot_be_used(tmp_path: Path) -> None:
         timeout=SECONDS,
     )
     assert (ran.stdout, ran.stderr) == ("None 1\n", "")
+
+
+@pytest.mark.parametrize(
+    "changed", ["crates/dmf_c/src/lib.rt", "crates/low/src", "crates.txt", "tools/dmf.map"]
+)
+def test_one_of_a_repository(tmp_path: Path, changed: str) -> None:
+    """It is taken unless the code is newer; definitions and proofs are not in it. Here nothing can
+    unpack another one."""
+    shutil.copytree(f"{CLIENT}/dmf", tmp_path / "clients/python/dmf")
+    library = tmp_path / "crates/dmf_c/out/libdmf.so.0"
+    library.parent.mkdir(parents=True)
+    proof, code = tmp_path / "crates/dmf_c/proofs/lib.antt", tmp_path / "crates/dmf_c/src/lib.rt"
+    for file in proof, code, tmp_path / "crates.txt", tmp_path / "tools/dmf.map":
+        file.parent.mkdir(parents=True, exist_ok=True)
+        file.touch()
+    (tmp_path / "crates/low/src").mkdir(parents=True)
+    shutil.copy(library_file(), library)
+    later = library.stat().st_mtime + 3_600
+    variables = environment(PYTHONPATH=str(tmp_path / "clients/python"))
+    for name in "DMF", "DMF_LIBRARY":
+        variables.pop(name, None)
+    found = []
+    changes: list[list[Path]] = [[], [proof], [tmp_path / changed]]
+    for newer in changes:
+        for file in newer:
+            os.utime(file, (later, later))
+        ran = subprocess.run(
+            [sys.executable, "-c", "import dmf; print(dmf.library())"],
+            env=variables,
+            capture_output=True,
+            text=True,
+            timeout=SECONDS,
+        )
+        found.append(ran.stdout + ran.stderr)
+    assert found == [f"{library}\n", f"{library}\n", "None\n"]
 
 
 def test_no_process_is_begun() -> None:

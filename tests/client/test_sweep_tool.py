@@ -11,6 +11,7 @@ import subprocess
 import sys
 from collections.abc import Iterator
 from pathlib import Path
+from typing import IO
 
 import pytest
 from built import heed_interrupts
@@ -49,9 +50,9 @@ def folder(tmp_path: Path, monkeypatch: pytest.MonkeyPatch) -> Path:
     return tmp_path
 
 
-def run_tool(*words: str) -> subprocess.CompletedProcess[str]:
+def run_tool(*words: str, stdin: int | IO[bytes] | None = None) -> subprocess.CompletedProcess[str]:
     command = [sys.executable, f"{ROOT}/tools/dmf-sweep", "net.max", *words]
-    return subprocess.run(command, capture_output=True, text=True, timeout=SECONDS)
+    return subprocess.run(command, stdin=stdin, capture_output=True, text=True, timeout=SECONDS)
 
 
 def rows(*words: str) -> list[list[str]]:
@@ -85,11 +86,46 @@ def test_cases() -> None:
 6|shut 1; close 1|lake|||arc is closed
 """
     assert rows("--cases", "cases.txt") == rows("--cases", "cases.txt", "--anew") == parted(wanted)
-    for line in "solve", "close x", "undo", "wash 1", "close 1;":
-        Path("cases.txt").write_text(f"close 1\n{line}\n")
-        ran = run_tool("--cases", "cases.txt")
+
+
+ANY = "expected cap, add, close or shut"
+WHOLE = "is not a whole number from 0 to 18446744073709551615; usage: "
+
+
+@pytest.mark.parametrize(
+    "line, column, told",
+    [
+        ("solve", 1, f"'solve' is not a change; {ANY}"),
+        ("undo", 1, f"'undo' is not a change; {ANY}"),
+        ("close 1; wash 1", 10, f"'wash' is not a change; {ANY}"),
+        ("close 1;c a comment", 9, f"'c' is not a change; {ANY}"),
+        ("close 1; ", 10, f"no command stands here; {ANY}"),
+        ("close  x", 8, f"'x' {WHOLE}close ARC"),
+        ("close 1;\tcap 3 1.5", 16, f"'1.5' {WHOLE}cap ARC CAPACITY"),
+        ("shut \u00fc9\x1b", 6, f"'\u00fc9\\x1b' {WHOLE}shut NODE"),
+        ("shut 1; close \u00fc", 15, f"'\u00fc' {WHOLE}close ARC"),
+        (f"add 1 2 {2**64}", 9, f"'{2**64}' {WHOLE}add TAIL HEAD CAPACITY"),
+        (
+            "close 1; cap 3",
+            10,
+            "'cap 3' has the wrong number of fields; usage: cap ARC CAPACITY",
+        ),
+        ("close 5 6 ", 1, "'close 5 6' has the wrong number of fields; usage: close ARC"),
+        ("\u00fc;close", 1, f"'\u00fc' is not a change; {ANY}"),
+        ("close 1;close", 9, "'close' has the wrong number of fields; usage: close ARC"),
+    ],
+)
+def test_a_wrong_case(line: str, column: int, told: str) -> None:
+    """The message has the file, the line, the column, what stands there and what is expected."""
+    for words, place in (["--cases", "cases.txt"], "cases.txt"), (
+        ["--cases", "-"],
+        "standard input",
+    ):
+        Path("cases.txt").write_text(f"close 1\n\n{line}\n", encoding="utf-8")
+        with open("cases.txt", "rb") as given:
+            ran = run_tool(*words, stdin=given)
         assert (ran.returncode, ran.stdout) == (3, "")
-        assert "line 2 of the cases" in ran.stderr
+        assert ran.stderr == f"dmf-sweep: {place}, line 3, column {column}: {told}\n"
 
 
 def goes_on(tools: Tools) -> int:

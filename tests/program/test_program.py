@@ -5,7 +5,6 @@ from __future__ import annotations
 
 import os
 import subprocess
-import time
 from pathlib import Path
 from typing import NamedTuple
 
@@ -13,6 +12,7 @@ import pytest
 from conftest import BUILT, ROOT
 from limits import SECONDS
 from oracle.program import VERSION_LINE
+from tool_runs import wait_until_read
 
 A = "examples/a.max"
 SOLUTION = b"s 5\nf 1 2 3\nf 1 3 2\nf 2 3 1\nf 2 4 2\nf 3 4 3\n"
@@ -202,7 +202,7 @@ def test_two_pieces() -> None:
     assert program.stdin
     program.stdin.write(text[:20])
     program.stdin.flush()
-    time.sleep(0.2)
+    wait_until_read(program)
     assert program.communicate(text[20:], timeout=SECONDS) == (SOLUTION, b"")
     assert program.returncode == 0
 

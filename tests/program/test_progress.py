@@ -1,14 +1,16 @@
 """How the built program shows its progress, on one line that is erased before anything is answered
-or asked for: on a pseudo terminal, and where it is asked for. Texts are given in pieces with pauses
-between them, and an answer is not taken at once, so that the program reads and writes after a
-pause; a network that takes some seconds is solved in sessions."""
+or asked for: on a pseudo terminal, and where it is asked for. Texts are given in pieces, each after
+the program has waited for it for a while, and an answer is not taken at once, so that the program
+reads and writes after a pause; a network that takes some seconds is solved in sessions."""
 
 from __future__ import annotations
 
+import fcntl
 import os
 import re
 import signal
 import subprocess
+import termios
 import threading
 import time
 from pathlib import Path
@@ -20,6 +22,7 @@ from limits import SECONDS
 from make_network import problem_of
 from progress_lines import ERASED, WORD, is_on_its_way, lines_of, solves_of, tasks_of
 from terminals import PAUSE, Terminal, typed, with_terminal
+from tool_runs import wait_until_asleep
 
 INVITATION = "dmf: reads a problem from the terminal; Ctrl-D ends it (dmf --help says more)\n"
 SMALL = b"p max 2 1\nn 1 s\nn 2 t\na 1 2 3\n"
@@ -63,31 +66,47 @@ def piped(words: list[str], given: bytes | IO[bytes]) -> subprocess.CompletedPro
     return subprocess.run([BUILT, *words], input=text, stdin=file, capture_output=True)
 
 
-def feed(pipe: IO[bytes], text: bytes) -> None:
-    """Gives a text in two pieces, with a pause before each and before the end."""
+def feed(pipe: IO[bytes], text: bytes, process: int) -> None:
+    """Gives a process a text in two pieces. It waits for a while for each of them and for the
+    end."""
     half = len(text) // 2
     for piece in (text[:half], text[half:]):
+        wait_until_asleep(process)
         time.sleep(PAUSE)
         pipe.write(piece)
         pipe.flush()
+    wait_until_asleep(process)
     time.sleep(PAUSE)
     pipe.close()
 
 
+def wait_until_blocked(running: subprocess.Popen[bytes]) -> None:
+    """Waits until a program cannot write on, since nobody reads its answer, or has ended."""
+    assert running.stdout
+    until, unread = time.monotonic() + SECONDS, bytearray(4)
+    while not any(unread) and running.poll() is None:
+        assert time.monotonic() < until, "nothing is answered"
+        time.sleep(0.01)
+        fcntl.ioctl(running.stdout, termios.FIONREAD, unread)
+    if running.poll() is None:
+        wait_until_asleep(running.pid)
+
+
 def slowly(words: list[str], text: bytes, both: bool) -> tuple[int, bytes, str]:
     """Runs the program where standard error is a terminal, and standard output too or a pipe that
-    is read after a while. Gives its status, what it wrote to the pipe, and what the terminal got.
-    """
+    is read once the program has waited for that for a while. Gives its status, what it wrote to the
+    pipe, and what the terminal got."""
     with Terminal() as terminal:
         out = terminal.end if both else subprocess.PIPE
         running = subprocess.Popen(
             [BUILT, *words], stdin=subprocess.PIPE, stdout=out, stderr=terminal.end
         )
         assert running.stdin
-        threading.Thread(target=feed, args=(running.stdin, text)).start()
+        threading.Thread(target=feed, args=(running.stdin, text, running.pid)).start()
         answer = b""
         if running.stdout:
-            time.sleep(5 * PAUSE)
+            wait_until_blocked(running)
+            time.sleep(PAUSE)
             answer = running.stdout.read()
         return running.wait(timeout=SECONDS), answer, terminal.close()
 
@@ -173,7 +192,7 @@ def test_slow_problem(tmp_path: Path) -> None:
         running = subprocess.Popen(
             words, stdin=subprocess.PIPE, stdout=subprocess.PIPE, stderr=terminal.end
         )
-        feed(open(pipe, "wb"), SMALL)
+        feed(open(pipe, "wb"), SMALL, running.pid)
         assert terminal.wait_for(
             lambda told: told.endswith(ERASED) and tasks_of(told) == ["reading"]
         )
@@ -191,11 +210,11 @@ def test_asked_while_waiting(small: Path) -> None:
     with Terminal() as terminal, subprocess.Popen(
         words, stdin=subprocess.PIPE, stdout=subprocess.DEVNULL, stderr=terminal.end
     ) as running:
-        is_told = terminal.wait_for(lambda told: "reading" in told)
-        time.sleep(PAUSE)
+        is_erased = terminal.wait_for(lambda told: "reading" in told and told.endswith(ERASED))
+        wait_until_asleep(running.pid)
         shown = terminal.told()
         running.communicate(b"")
-    assert is_told and tasks_of(shown) == ["reading"]
+    assert is_erased and tasks_of(shown) == ["reading"]
 
 
 @pytest.mark.seconds(3)
@@ -207,7 +226,7 @@ def test_slow_fault(tmp_path: Path) -> None:
         running = subprocess.Popen(
             [str(BUILT), "session", str(pipe)], stdin=subprocess.DEVNULL, stderr=terminal.end
         )
-        feed(open(pipe, "wb"), SMALL + b"x\n")
+        feed(open(pipe, "wb"), SMALL + b"x\n", running.pid)
         assert running.wait(timeout=SECONDS) == 3
         shown, _, told = terminal.close().rpartition(ERASED)
         assert tasks_of(shown + ERASED) == ["reading"] and told.startswith(

@@ -5,6 +5,7 @@ interrupt in the engine's work ends a run with nothing written."""
 
 from __future__ import annotations
 
+import os
 import signal
 import subprocess
 import time
@@ -24,6 +25,7 @@ from oracle.texts import LineFault
 from program.test_named_networks import NETWORKS
 from random_cases import fitting, network, problem_lines
 from random_texts import plain_text
+from tool_runs import wait_until_read
 from worked_forms import text
 
 FAMILIES = (
@@ -46,8 +48,9 @@ Generate = Callable[[str, int], bytes]
 # Longer than reading is silent after its first report, in seconds.
 PAUSE = 0.4
 CHAIN = b"p max 3 2\nn 1 s\nn 3 t\na 1 2 7\na 2 3 4\n"
-# Combs of so many arcs take the engine some 8 s, and the signal comes long before.
-COMBED, HALF_A_SECOND = 60_000, 0.5
+# Combs of so many arcs take the engine some 8 s of processor time, and the signal comes once it has
+# had so much after the text was read.
+COMBED, WORKED = 60_000, 0.3
 
 
 def solved(problem: bytes, *words: bytes) -> bytes:
@@ -123,6 +126,23 @@ def test_named_networks(name: str) -> None:
     assert difference(network if isinstance(network, bytes) else text(network)) is None
 
 
+def place_in_input(process: int) -> int:
+    """Return how far a process has read the file that is its standard input."""
+    return int(Path(f"/proc/{process}/fdinfo/0").read_text().split()[1])
+
+
+def processor_seconds(process: int) -> float:
+    fields = Path(f"/proc/{process}/stat").read_text().rpartition(")")[2].split()
+    return sum(map(int, fields[11:13])) / os.sysconf("SC_CLK_TCK")
+
+
+def wait_until(holds: Callable[[], bool]) -> None:
+    until = time.monotonic() + SECONDS
+    while not holds():
+        assert time.monotonic() < until, "the program does not work"
+        time.sleep(0.01)
+
+
 @pytest.mark.seconds(2)
 @pytest.mark.parametrize("word", ["--brief", "--any"])
 def test_interrupt(generate: Generate, word: str, tmp_path: Path) -> None:
@@ -138,15 +158,17 @@ def test_interrupt(generate: Generate, word: str, tmp_path: Path) -> None:
             stderr=subprocess.PIPE,
             preexec_fn=built.heed_interrupts,
         )
-    time.sleep(HALF_A_SECOND)
+    wait_until(lambda: place_in_input(run.pid) == file.stat().st_size)
+    read = processor_seconds(run.pid)
+    wait_until(lambda: processor_seconds(run.pid) > read + WORKED)
     run.send_signal(signal.SIGINT)
     out, err = run.communicate(timeout=SECONDS)
     assert (run.returncode, out, err) == (-signal.SIGINT, b"", b"")
 
 
 def told(problems: dict[str, bytes], *words: str) -> dict[str, bytes]:
-    """What runs tell by `--progress`, all at once. Each has a pause between the text and its end,
-    so that the first path is told."""
+    """What runs tell by `--progress`, all at once. Each has read the text and waits for its end for
+    a while, so that the first path is told."""
     runs = {}
     for name, problem in problems.items():
         run = subprocess.Popen(
@@ -159,6 +181,8 @@ def told(problems: dict[str, bytes], *words: str) -> dict[str, bytes]:
         run.stdin.write(problem)
         run.stdin.flush()
         runs[name] = run
+    for run in runs.values():
+        wait_until_read(run)
     time.sleep(PAUSE)
     return {name: run.communicate(timeout=SECONDS)[1] for name, run in runs.items()}
 

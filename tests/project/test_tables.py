@@ -9,13 +9,14 @@ import subprocess
 from pathlib import Path
 
 import pytest
-from desk_shared import ROOT, SECONDS, greatest, run, water, water_problem
+from desk_shared import ROOT, greatest, run, water, water_problem
 from dmf.desk.project.opener import keep_project, project_desk
 from dmf.desk.project.scenarios import project_of
 from dmf.desk.project.storage import versions_of
 from dmf.desk.steps import DeskFault
 from dmf.desk.workspace import Desk
 from dmf.tables.loader import read_subject
+from limits import SECONDS
 from packages import load
 from project_shared import named, new_project, supply_project, water_project, words
 

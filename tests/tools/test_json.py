@@ -12,8 +12,9 @@ from typing import Any
 
 import pytest
 from built import BUILT
-from desk_shared import ODD, PIPES, ROOT, SCRIPT, SECONDS, STORY, run, swept, water_problem
+from desk_shared import ODD, PIPES, ROOT, SCRIPT, STORY, run, swept, water_problem
 from dmf.text.lexical import display
+from limits import SECONDS
 from packages import load
 
 jsonschema = load("jsonschema")

@@ -4,6 +4,7 @@ from __future__ import annotations
 
 from array import array
 from functools import partial
+from typing import TYPE_CHECKING
 
 from .errors import CapacitiesPast64Bits, Refused
 from .graph_rows import GivenNetwork
@@ -12,7 +13,9 @@ from .session.column_texts import problem_pieces
 from .session.fresh import CUT, FLOW, VALUE, solved
 from .session.runners import chosen, program_of
 from .text.lexical import AMOUNTS, LARGEST
-from .unbounded_arcs import BoundlessFlow, solve_unbounded
+
+if TYPE_CHECKING:
+    from .unbounded_arcs import BoundlessFlow
 
 
 def solved_graph(given: GivenNetwork, words: list[str], program: Program) -> Solved | BoundlessFlow:
@@ -22,6 +25,8 @@ def solved_graph(given: GivenNetwork, words: list[str], program: Program) -> Sol
     problem = given.state.problem()
     try:
         if given.unbounded and sum(problem.capacities) <= LARGEST:
+            from .unbounded_arcs import solve_unbounded
+
             return solve_unbounded(problem, given.unbounded, words, solver)
         # Capacities that are past 64 bits together are refused, whatever the others are.
         return solver(problem, words)

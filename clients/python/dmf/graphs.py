@@ -8,7 +8,6 @@ from typing import TYPE_CHECKING, Any, Dict, overload
 from .capacities import CapacityReader, Scale
 from .columns import Node
 from .errors import Refused
-from .graph_flows import EdgeFlow, MatrixFlow, flow_dictionaries, flows_on_edges, net_matrix
 from .graph_rows import given_network, is_igraph, is_networkx
 from .graph_solves import bounded_problem, solved_graph
 from .rows import Whole
@@ -16,7 +15,6 @@ from .session.base import Program, Solved, where
 from .session.column_texts import flow_array
 from .session.fresh import CUT, FLOW, VALUE, values_without, worst_among
 from .session.runners import program_of
-from .unbounded_arcs import flows_of
 
 if TYPE_CHECKING:
     from decimal import Decimal
@@ -271,6 +269,10 @@ def maximum_flow(
     >>> maximum_flow({"lake": {"mill": 3}, "mill": {"sea": 2}}, "lake", "sea")
     (2, {'lake': {'mill': 2}, 'mill': {'sea': 2}, 'sea': {}})
     """
+    # Imported here, so that a first call of `value` does not wait for them.
+    from .graph_flows import EdgeFlow, MatrixFlow, flow_dictionaries, flows_on_edges, net_matrix
+    from .unbounded_arcs import flows_of
+
     is_matrix = hasattr(graph, "tocoo")
     if not (is_matrix or isinstance(graph, Mapping) or is_networkx(graph) or is_igraph(graph)):
         raise TypeError(

@@ -25,8 +25,9 @@ PLACES = {
     ("share", "dmf", "python", "dmf"): "lib/dmf/dmf",
     ("lib", "python3", "dist-packages", "dmf"): "lib/dmf/dmf",
 }
-# How long a program may take to print its version, in seconds.
-SECONDS = 2
+# How long a program may take to print its version, or to end once it has closed its input or its
+# output, in seconds. It passes only if something is wrong, also on a machine with much else to do.
+SECONDS = 20
 # The errors by which the system says that it cannot run a path.
 NOT_RUN = {
     errno.ENOENT,
@@ -98,7 +99,9 @@ def _beside() -> str | None:
 def end_reason(status: int | None) -> str:
     """Return how a program ended, in words."""
     if status is None:
-        return "closed its input or its output and was killed"
+        return (
+            f"closed its input or its output, did not end within {SECONDS} seconds and was killed"
+        )
     if status >= 0:
         return f"ended with status {status}"
     try:
@@ -127,7 +130,13 @@ def refuse_unfit(path: str | bytes, error: SessionEnded) -> None:
             f"{_shown(path)} cannot be run: it needs {name}, and this system's libc is older; "
             f"{OTHER}"
         )
-    version = _version(path)
+    try:
+        version = _version(path)
+    except subprocess.TimeoutExpired:
+        raise NoProgram(
+            f"{_shown(path)} did not print its version within {SECONDS} seconds, so it may not be "
+            f"dmf; {needed()}; {OTHER}: {error}"
+        ) from None
     if not version:
         raise NoProgram(f"{_shown(path)} is not dmf; {needed()}; {OTHER}: {error}")
     if not fits(version):
@@ -136,12 +145,14 @@ def refuse_unfit(path: str | bytes, error: SessionEnded) -> None:
 
 def refuse_other_version(path: str | bytes) -> None:
     """Raise `NoProgram` if a program prints a version that this package does not work with. A
-    program is asked once as long as its file does not change. If it prints no version, or cannot be
-    run, its first session will show why."""
+    program is asked once as long as its file does not change. If it prints no version, or none in
+    time, or cannot be run, its first session will show why."""
     found = shutil.which(os.fsdecode(path))
     if found:
         file = os.stat(found)
-        version = _printed(found, file.st_dev, file.st_ino, file.st_mtime_ns, file.st_size)
+        version = None
+        with contextlib.suppress(subprocess.TimeoutExpired):
+            version = _printed(found, file.st_dev, file.st_ino, file.st_mtime_ns, file.st_size)
         if version and not fits(version):
             raise other_version(_shown(path), display(version), f"; {OTHER}")
 
@@ -158,12 +169,13 @@ def _shown(path: str | bytes) -> str:
 
 
 def _version(path: str | bytes) -> str | None:
-    """Return the version that a program prints, if it prints one as dmf does."""
+    """Return the version that a program prints, if it prints one as dmf does. Raises a
+    `TimeoutExpired` if it takes too long."""
     try:
         ran = subprocess.run(
             [path, "--version"], stdin=subprocess.DEVNULL, capture_output=True, timeout=SECONDS
         )
-    except (OSError, subprocess.TimeoutExpired):
+    except OSError:
         return None
     found = re.fullmatch(rb"dmf (\S{1,40})\n", ran.stdout)
     return found[1].decode(errors="replace") if found else None

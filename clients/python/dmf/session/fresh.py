@@ -5,7 +5,6 @@ from __future__ import annotations
 
 from array import array
 from collections.abc import Iterable, Sequence
-from heapq import nsmallest
 from typing import TYPE_CHECKING
 
 from ..errors import NumberTooLarge, SessionEnded, UnknownCommand
@@ -129,6 +128,8 @@ def worst_among(
     """
     hidden = among.count(0)
     if ranked is Ranked.ARCS and most + hidden > MOST_RANKED:
+        from heapq import nsmallest
+
         value, without = values_without(problem, Part.ARC, program)
         numbers = (number for number, mark in enumerate(among, 1) if mark)
         worst = nsmallest(most, ((without[number - 1], number) for number in numbers))

@@ -29,7 +29,8 @@ from .base import (
     refused_line,
 )
 
-# How long the program may take to end after its input has ended, in seconds.
+# How long a program that is no longer needed may take to end by itself once its input has ended, in
+# seconds. Then it is killed, and nothing is lost.
 SECONDS = 2
 # How much of the program's standard error is shown, in bytes.
 MOST_TOLD = 1 << 16
@@ -242,7 +243,7 @@ class ProgramSession(Session):
         """Return the status of the program once it has ended. A program that keeps running without
         reading or writing lines is killed, and its status is None."""
         try:
-            return self.process.wait(SECONDS)
+            return self.process.wait(executable.SECONDS)
         except subprocess.TimeoutExpired:
             self.process.kill()
             self.process.wait()

@@ -120,15 +120,14 @@ def _of_repository(root: str) -> str | None:
 
 
 def _is_older(path: str, root: str) -> bool:
-    """Return True if a source file, or a folder of sources, has changed since the library was put
-    there."""
+    """Return True if a file or folder of the code has changed since the library was put there.
+
+    Definitions and proofs, which are most files of a crate, are not looked at: with others the
+    library would be the same, and to look at them takes most of the first call's time.
+    """
     put, crates = os.stat(path).st_mtime_ns, os.path.join(root, "crates")
     places = [os.path.join(root, name) for name in ("crates.txt", "tools/library", "tools/dmf.map")]
-    places += [
-        os.path.join(crates, crate, part)
-        for crate in os.listdir(crates)
-        for part in ("src", "specs", "proofs")
-    ]
+    places += [os.path.join(crates, crate, "src") for crate in os.listdir(crates)]
     there = filter(os.path.exists, places)
     return any(
         os.stat(place).st_mtime_ns > put or os.path.isdir(place) and _has_newer(place, put)

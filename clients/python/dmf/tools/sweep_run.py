@@ -18,14 +18,20 @@ from ..sweeps.cases import SweepResult, sweep
 from ..sweeps.each import Each
 from ..tables.sheet import cell_of, line, number_cell
 from ..text.events import case_line
-from ..text.lexical import NODE, Fault
-from ..text.session_commands import read_command
+from ..text.lexical import FIELD, LARGEST, NODE, Fault, display, read_number
 from ..text.spelling import names_in, naming_pieces
 from ..text.table_comments import TableRoles, described, role_words
 from .command import ToolFault
 
 NAME = "dmf-sweep"
-CHANGES = {"cap", "close", "shut", "add"}
+# The commands that a case may have, each with its form.
+CHANGES = {
+    "cap": "cap ARC CAPACITY",
+    "add": "add TAIL HEAD CAPACITY",
+    "close": "close ARC",
+    "shut": "shut NODE",
+}
+ANY_CHANGE = "expected cap, add, close or shut"
 
 
 class CaseNames:
@@ -100,27 +106,63 @@ class CaseNames:
         return self._names.get(place, str(place))
 
 
-def case_of(line: bytes, number: int) -> list[tuple[Any, ...]]:
-    """Return the commands in a line. Raises a `ToolFault` for a command that is not a change."""
-    commands = []
+def case_of(line: bytes, place: str) -> list[tuple[Any, ...]]:
+    """Return the commands in a line. Raises a `ToolFault` for a command that is not a change, which
+    names the line's `place`, the column and what stands there."""
+    commands: list[tuple[Any, ...]] = []
+    begin = 0
     for part in line.split(b";"):
         try:
-            command = read_command(part.strip())
-        except Fault as fault:
-            raise ToolFault(f"line {number} of the cases: {fault}") from None
-        if command is None or command.word not in CHANGES:
-            raise ToolFault(
-                f"line {number} of the cases: a case can only have cap, add, close and shut"
-            )
-        commands.append((command.word, *command.numbers))
+            commands.append(_change(part))
+        except _CaseFault as fault:
+            column = len(line[: begin + fault.begin].decode(errors="replace")) + 1
+            raise ToolFault(f"{place}, column {column}: {fault}") from None
+        begin += len(part) + 1
     return commands
 
 
+class _CaseFault(Exception):
+    """What is wrong with a command of a case, which stands `begin` bytes behind its beginning."""
+
+    def __init__(self, begin: int, why: str) -> None:
+        super().__init__(why)
+        self.begin = begin
+
+
+def _change(part: bytes) -> tuple[Any, ...]:
+    """Return the command that the part of a line between two semicolons has. Raises a
+    `_CaseFault`."""
+    fields = [*FIELD.finditer(part)]
+    if not fields:
+        raise _CaseFault(len(part), f"no command stands here; {ANY_CHANGE}")
+    (begin, first), numbers = fields[0].span(), []
+    word = _shown(part[begin:first])
+    if word not in CHANGES:
+        raise _CaseFault(begin, f"'{word}' is not a change; {ANY_CHANGE}")
+    usage = f"usage: {CHANGES[word]}"
+    if len(fields) != len(usage.split()) - 1:
+        found = _shown(part[begin : fields[-1].end()])
+        raise _CaseFault(begin, f"'{found}' has the wrong number of fields; {usage}")
+    for field in fields[1:]:
+        try:
+            numbers.append(read_number(field[0]))
+        except Fault:
+            why = f"'{_shown(field[0])}' is not a whole number from 0 to {LARGEST}; {usage}"
+            raise _CaseFault(field.start(), why) from None
+    return (word, *numbers)
+
+
+def _shown(field: bytes) -> str:
+    return display(field.decode(errors="replace"))
+
+
 def cases_of_file(path: str) -> list[list[tuple[Any, ...]]]:
-    lines = read_file(path).splitlines()
+    """Return the cases in the lines of a file. Raises a `ToolFault` for the first that has a
+    fault."""
+    name = "standard input" if path == "-" else path
     return [
-        case_of(line, at)
-        for at, line in enumerate(lines, 1)
+        case_of(line, f"{name}, line {at}")
+        for at, line in enumerate(read_file(path).splitlines(), 1)
         if line.strip() and not line.strip().startswith(b"c ")
     ]
 
