@@ -11,6 +11,7 @@ from typing import Any
 import pytest
 from board_pages import Page, set_width
 from board_running import board
+from board_views import grid_table
 from desk_shared import PIPES, ROOT
 from test_board_access import as_before, judge_names, show
 
@@ -167,6 +168,31 @@ def test_nothing_is_short(driver: Any, width: int) -> None:
         page.wait(lambda: page.value() == 155)
         judge_head(page, width)
         page.by_role("button", "Undo")
+        as_before(driver)
+
+
+# How wide the lines of the value are, in pixels: the texts whose middles are at one height.
+WIDE = """
+const range = document.createRange(), found = [];
+range.selectNodeContents(document.getElementById("value"));
+for (const { left, right, top, bottom } of range.getClientRects()) {
+  const middle = (top + bottom) / 2, same = found.find((it) => Math.abs(it.middle - middle) < 9);
+  if (!same) found.push({ left, right, middle });
+  else Object.assign(same, { left: Math.min(same.left, left), right: Math.max(same.right, right) });
+}
+return found.map(({ left, right }) => right - left);
+"""
+
+
+@pytest.mark.parametrize("width", [768, 400])
+def test_no_word_is_alone(driver: Any, tmp_path: Path, width: int) -> None:
+    """Where the value has two lines, neither is shorter than a third of the other."""
+    with board(grid_table(tmp_path, 3)) as it:
+        show(driver, width, "light")
+        page = Page(driver, it.address)
+        assert page.text("#value").endswith(" litres can be sent from Lake to Sea, and not more.")
+        wide = driver.execute_script(WIDE)
+        assert len(wide) == 2 and min(wide) > max(wide) / 3, wide
         as_before(driver)
 
 
