@@ -260,3 +260,14 @@ def test_long_names(driver: Any, tmp_path: Path, width: int) -> None:
             assert found[0].startswith(said) and found[1].startswith(short)
             driver.get("about:blank")
     as_before(driver)
+
+
+@pytest.mark.parametrize(
+    "title, word", [("Pipe", "pipe"), ("ROAD", "road"), ("shift", "shift"), ("Rohr", "Rohr")]
+)
+def test_the_word_of_the_table(tmp_path: Path, title: str, word: str) -> None:
+    """The page calls an arc what the table's title calls it, as it stands within a sentence."""
+    table = tmp_path / "pipes.csv"
+    table.write_text(f"from,to,l/s,{title}\nLake,Sea,9,one\n")
+    with board(str(table)) as it:
+        assert it.state()["words"]["arc"] == word

@@ -115,9 +115,9 @@ def test_the_bottleneck_is_named(driver: Any) -> None:
         as_before(driver)
 
 
-# How each label of an arc of the bottleneck, or of the selected one, belongs to its line: how far it
-# is from that, in pixels, and how far another line is; and of the thin line to it, if there is one,
-# how far its beginning is from the arc's line, and its end from the label.
+# How each label of an arc of the bottleneck, or of the selected one, belongs to its line: how far
+# it is from that, in pixels, and how far another line is; and of the thin line to it, if there is
+# one, how far its beginning is from the arc's line, and its end from the label.
 BELONGS = """
 const box = (all) => {
   const found = all.filter((it) => it.checkVisibility()).map((it) => it.getBoundingClientRect());

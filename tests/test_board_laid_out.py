@@ -177,7 +177,7 @@ def test_all_laid_out(driver: Any, tmp_path: Path) -> None:
         as_before(driver)
 
 
-# The first lines of all labels of the picture in front; and that of what is selected, if it is seen.
+# The first lines of all labels of the picture in front; and that of what is selected, if seen.
 ALL_NAMED = """
 return [...document.querySelectorAll("#picture .arc")].map((it) =>
   it.querySelector("text")?.textContent);
