@@ -115,12 +115,12 @@ function paintLines(brush, drawn) {
  * @param {Brush} brush
  */
 function shadeBefore({ pen, colour }) {
-  const reach = Math.max(ROUND, CLOSED * ground.usual);
+  const radius = Math.max(ROUND, CLOSED * ground.usual);
   pen.beginPath();
   for (const { x, y, look } of places.values()) {
     if (look !== BEFORE) continue;
     pen.moveTo(x, y);
-    pen.arc(x, y, reach, 0, 2 * Math.PI);
+    pen.arc(x, y, radius, 0, 2 * Math.PI);
   }
   pen.fillStyle = colour("side");
   pen.fill();
