@@ -94,8 +94,7 @@ def test_page(driver: Any) -> None:
         page.know_worth()
         assert shown(page, "best-table") == [[*row, "Try it"] for row in best(water())]
         assert page.text("#best-note") == (
-            "Instead of 165 litres per second, so much can be sent with a second one beside one "
-            "of these."
+            "With a second one beside one of these, more than 165 litres per second can be sent."
         )
         titles = [it.strip() for it in page.text("#best-table thead").strip().split("\t")]
         assert titles == ["Pipe", "then", "gained", "what can be done"]
@@ -187,7 +186,7 @@ def test_roster(driver: Any) -> None:
         page.know_worth()
         judge_words(page)
         assert page.text("#best-note").startswith(
-            "Instead of 120 hours, so much can be staffed if one of these allows twice as much."
+            "If one of these allows twice as much, more than 120 hours can be staffed."
         )
         problem = it.ask(f"{it.root}problem.max?turn={it.turn()}")[2].decode()
         found = worth(it)["seconds"]["best"]

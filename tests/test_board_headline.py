@@ -11,6 +11,7 @@ from typing import Any
 import pytest
 from board_pages import Page, set_width
 from board_running import board
+from board_views import grid_table
 from desk_shared import PIPES, ROOT
 from test_board_access import as_before, judge_names, show
 
@@ -170,6 +171,31 @@ def test_nothing_is_short(driver: Any, width: int) -> None:
         as_before(driver)
 
 
+# How wide the lines of the value are, in pixels: the texts whose middles are at one height.
+WIDE = """
+const range = document.createRange(), found = [];
+range.selectNodeContents(document.getElementById("value"));
+for (const { left, right, top, bottom } of range.getClientRects()) {
+  const middle = (top + bottom) / 2, same = found.find((it) => Math.abs(it.middle - middle) < 9);
+  if (!same) found.push({ left, right, middle });
+  else Object.assign(same, { left: Math.min(same.left, left), right: Math.max(same.right, right) });
+}
+return found.map(({ left, right }) => right - left);
+"""
+
+
+@pytest.mark.parametrize("width", [768, 400])
+def test_no_word_is_alone(driver: Any, tmp_path: Path, width: int) -> None:
+    """Where the value has two lines, neither is shorter than a third of the other."""
+    with board(grid_table(tmp_path, 3)) as it:
+        show(driver, width, "light")
+        page = Page(driver, it.address)
+        assert page.text("#value").endswith(" litres can be sent from Lake to Sea, and not more.")
+        wide = driver.execute_script(WIDE)
+        assert len(wide) == 2 and min(wide) > max(wide) / 3, wide
+        as_before(driver)
+
+
 def judge_whole(page: Page) -> list[str]:
     """No text of the headline that is seen is cut, and the value has two lines at most. Returns the
     texts."""
@@ -234,3 +260,14 @@ def test_long_names(driver: Any, tmp_path: Path, width: int) -> None:
             assert found[0].startswith(said) and found[1].startswith(short)
             driver.get("about:blank")
     as_before(driver)
+
+
+@pytest.mark.parametrize(
+    "title, word", [("Pipe", "pipe"), ("ROAD", "road"), ("shift", "shift"), ("Rohr", "Rohr")]
+)
+def test_the_word_of_the_table(tmp_path: Path, title: str, word: str) -> None:
+    """The page calls an arc what the table's title calls it, as it stands within a sentence."""
+    table = tmp_path / "pipes.csv"
+    table.write_text(f"from,to,l/s,{title}\nLake,Sea,9,one\n")
+    with board(str(table)) as it:
+        assert it.state()["words"]["arc"] == word

@@ -33,7 +33,7 @@ const parts = [...document.querySelectorAll("#picture .node, #picture .arc")];
 const places = parts.filter((it) => it.matches(".node")).map((it) =>
   [it.id, box([...it.querySelectorAll("ellipse:not(.halo)")])]);
 const labels = parts.filter((it) => !it.matches(".unlabelled")).map((it) =>
-  [it.id, box([...it.querySelectorAll("text")]), it]);
+  [it.id, box([...it.querySelectorAll("text")].filter((text) => text.checkVisibility())), it]);
 const wide = { left: 0, top: 0, right: innerWidth, bottom: innerHeight };
 const over = ["head", "foot", "moves", "panel", "fold"].map((id) =>
   box([document.getElementById(id)]));
@@ -112,4 +112,72 @@ def test_the_bottleneck_is_named(driver: Any) -> None:
         limit = {arc["name"] for arc in it.state()["limit"]}
         assert limit == {"North rise", "Mill Lane", "South main"}
         assert limit | {"Reservoir", "Harbour"} <= set(names)
+        as_before(driver)
+
+
+# How each label of an arc of the bottleneck, or of the selected one, belongs to its line: how far
+# it is from that, in pixels, and how far another line is; and of the thin line to it, if there is
+# one, how far its beginning is from the arc's line, and its end from the label.
+BELONGS = """
+const box = (all) => {
+  const found = all.filter((it) => it.checkVisibility()).map((it) => it.getBoundingClientRect());
+  const least = (side) => Math.min(...found.map((it) => it[side]));
+  const most = (side) => Math.max(...found.map((it) => it[side]));
+  return { left: least("left"), top: least("top"), right: most("right"), bottom: most("bottom") };
+};
+const pointsOf = (path) => {
+  const { a, d, e, f } = path.getScreenCTM(), long = path.getTotalLength();
+  const count = Math.max(1, Math.ceil(long * a / 2));
+  return Array.from({ length: count + 1 }, (_, at) => {
+    const { x, y } = path.getPointAtLength(at / count * long);
+    return [x * a + e, y * d + f];
+  });
+};
+const away = ({ left, top, right, bottom }, [x, y]) =>
+  Math.hypot(Math.max(left - x, 0, x - right), Math.max(top - y, 0, y - bottom));
+const arcs = [...document.querySelectorAll("#picture .arc")];
+const lines = arcs.map((part) => [part, pointsOf(part.querySelector("path:not(.wide)"))]);
+const near = (label, points) => Math.min(...points.map((point) => away(label, point)));
+return lines.filter(([part]) => part.matches(arguments[0]) && !part.matches(".unlabelled"))
+  .map(([part, points]) => {
+    const label = box([...part.querySelectorAll("text")]);
+    const others = lines.filter(([it]) => it !== part).map(([, its]) => near(label, its));
+    const leader = part.querySelector(".leader"), ends = leader ? pointsOf(leader) : [];
+    const [x, y] = ends[0] ?? [0, 0];
+    return { id: part.id, own: near(label, points), other: Math.min(...others),
+      led: leader ? [Math.min(...points.map((it) => Math.hypot(it[0] - x, it[1] - y))),
+        away(label, ends[ends.length - 1])] : null };
+  });
+"""
+# How far such a label may be from its line without a thin line to it, and how far the ends of that
+# may be from the line, which has a thickness, and from the label, in pixels.
+BESIDE_LINE, FROM_LINE, FROM_LABEL = 36, 9, 8
+
+
+def judge_belonging(page: Page, which: str) -> int:
+    """Each of these labels stands beside its own line, or a thin line leads to it from there.
+    Returns how many there are."""
+    page.settle()
+    found = page.driver.execute_script(BELONGS, which)
+    for it in found:
+        if it["led"]:
+            assert it["led"][0] <= FROM_LINE and it["led"][1] <= FROM_LABEL, it
+        else:
+            assert it["own"] <= BESIDE_LINE, it
+            assert it["own"] <= it["other"] or ".chosen" in which, it
+    return len(found)
+
+
+@pytest.mark.parametrize("width", WIDTHS)
+def test_whose_label_it_is(driver: Any, width: int) -> None:
+    """Whichever pipe of the water story is selected, its label stands beside its line, or a thin
+    line leads to it."""
+    with board(PIPES) as it:
+        show(driver, width, "light")
+        page = Page(driver, it.address)
+        judge_belonging(page, ".arc.cut")
+        for arc in it.told("rows?filter=&sort=&first=0&count=12")["rows"]:
+            page.driver.get(f"{it.address}#arc={arc['number']}")
+            page.ready()
+            assert judge_belonging(page, ".arc.chosen") == 1, arc
         as_before(driver)

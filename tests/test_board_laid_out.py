@@ -176,3 +176,31 @@ def test_all_laid_out(driver: Any, tmp_path: Path) -> None:
         page.wait(lambda: "All 968 are drawn" in page.text("#drawn-note"))
         assert it.told("picture?near=")["version"] == version
         as_before(driver)
+
+
+# The first lines of all labels of the picture in front; and that of what is selected, if seen.
+ALL_NAMED = """
+return [...document.querySelectorAll("#picture .arc")].map((it) =>
+  it.querySelector("text")?.textContent);
+"""
+NAMED = """
+const text = document.querySelector("#picture .chosen text");
+return text?.checkVisibility() ? text.textContent : "";
+"""
+
+
+def test_a_found_pipe_is_named(driver: Any, tmp_path: Path) -> None:
+    """A pipe that is found in a network that is laid out as a whole has its label, although the
+    part of the picture that was drawn in front was elsewhere."""
+    with board(grid_table(tmp_path, 32)) as it:
+        show(driver, 768, "light")
+        page = Page(driver, it.address)
+        page.wait(lambda: "All 2,048 are drawn" in page.text("#drawn-note"))
+        page.settle()
+        name = "right 25 2"
+        assert name not in driver.execute_script(ALL_NAMED)
+        page.write("#text", name + "\ue007")
+        page.wait(lambda: page.text("#what h3") == name)
+        page.settle()
+        page.wait(lambda: driver.execute_script(NAMED) == name)
+        as_before(driver)

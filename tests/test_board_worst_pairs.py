@@ -113,8 +113,8 @@ def test_page(driver: Any) -> None:
         wanted = worst_pairs(water())
         assert shown(page, "worst-pairs-table") == rows_of(wanted)
         said = (
-            "The two pipes of each row cost most to lose together: of 165 litres per second, so "
-            "much is left if both are closed."
+            "The two pipes of each row cost most to lose together. The table shows what is left "
+            "of 165 litres per second if both are closed."
         )
         assert page.text("#worst-pairs-note") == said
         titles = page.text("#worst-pairs-table thead").strip().split("\t")
@@ -150,7 +150,7 @@ def test_found_last(driver: Any, monkeypatch: pytest.MonkeyPatch) -> None:
                 hold.touch()
             it.do(what="close", arc=NAMES.index("Bridge pipe") + 1)
             page.wait(lambda: page.value() == 155)
-            page.wait(lambda: page.text("#worst-note").startswith("Of 155 "))
+            page.wait(lambda: page.text("#worst-note").startswith("What is left of 155 "))
             is_old = "return !!document.querySelector('#worst-pairs-table.old')"
             assert driver.execute_script(is_old)
             assert shown(page, "worst-pairs-table") == rows_of(worst_pairs(water()))

@@ -26,6 +26,11 @@ from .titles import (
 PLAIN_TITLES = {"", "limite", *USUAL[CAPACITY], *USUAL[NAME], *USUAL[LIMIT], "title"}
 # Those of names that say what an arc is all the same.
 PLAIN_TITLES -= set("pipe rohr leitung tuyau tubo tuberia road strasse route calle".split())
+# English words for an arc, which are written in lower case within a sentence.
+ENGLISH_ARCS = set(
+    "arc cable canal channel conduit duct edge lane line link main pipe pipeline road route "
+    "section segment shift street".split()
+)
 LONGEST_UNIT = 40
 # How many titles a message lists.
 MOST_LISTED = 20
@@ -147,9 +152,11 @@ def unit_of(title: Title) -> str:
 
 
 def spoken(title: str) -> str:
-    """Return a title, if it says what its cells are."""
+    """Return a title as it stands within a sentence, if it says what its cells are."""
     is_plain = title_of(title).word in PLAIN_TITLES or not any(map(str.isalpha, title))
-    return title if not is_plain and len(title) <= LONGEST_UNIT and title.isprintable() else ""
+    if is_plain or len(title) > LONGEST_UNIT or not title.isprintable():
+        return ""
+    return title.lower() if title.lower() in ENGLISH_ARCS else title
 
 
 def is_heading(cell: str) -> bool:

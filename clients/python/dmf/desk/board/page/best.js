@@ -38,7 +38,7 @@ function bestNote(seconds) {
   if (!seconds) return `This page does not find where a second one helps most; “what-if each ${noun()} of the cut” in dmf plan does.`;
   if (!seconds.best.length) return "A second one of any of them alone brings nothing.";
   const rest = seconds.more ? ` ${grouped(seconds.more)} more bring something.` : "";
-  return `Instead of ${present().value}${units()}, ${wording().twice}.${rest}`;
+  return `${wording().twice.replace("{value}", present().value + units())}.${rest}`;
 }
 
 /**

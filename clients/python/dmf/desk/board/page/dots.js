@@ -112,15 +112,16 @@ export function paintEnd(pen, { x, y, end, share }, scale, { rim, fill, share: i
 }
 
 /**
- * Draws a thin line from a place to its name, if that is further out.
+ * Draws a thin line to a label that is further out, or removes it.
  * @param {Element} part
- * @param {Edges | null} box where the name is, in pixels
+ * @param {Edges | null} box where the label is, in pixels
+ * @param {number[]} middle where the line would begin, in pixels
+ * @param {number} reach how far from there it begins
  * @param {number} scale pixels per unit
  */
-export function lead(part, box, scale) {
-  const [x, y] = middleOf(part).map((it) => it * scale), known = part.querySelector(".leader");
-  const to = box && nearestIn(box, [x, y]);
-  const far = to ? Math.hypot(to[0] - x, to[1] - y) : 0, reach = reachOf(part);
+export function lead(part, box, [x, y], reach, scale) {
+  const known = part.querySelector(".leader"), to = box && nearestIn(box, [x, y]);
+  const far = to ? Math.hypot(to[0] - x, to[1] - y) : 0;
   if (!to || far < reach + LED) {
     known?.remove();
     return;
@@ -129,3 +130,11 @@ export function lead(part, box, scale) {
   const outline = `M${[...from, ...to].map((it) => (it / scale).toFixed(2)).join(" ")}`;
   (known ?? add(part, "leader", outline)).setAttribute("d", outline);
 }
+
+/**
+ * Draws a thin line from a place to its name, if that is further out.
+ * @param {Element} part
+ * @param {Edges | null} box where the name is, in pixels
+ * @param {number} scale pixels per unit
+ */
+export const leadFrom = (part, box, scale) => lead(part, box, middleOf(part).map((it) => it * scale), reachOf(part), scale);

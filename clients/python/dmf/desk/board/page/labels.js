@@ -3,10 +3,12 @@
  * arrow, and no edge or card cuts it. The most important ones are placed first; one that finds no spot is hidden. Letters are as large as
  * Graphviz made them, within readable bounds.
  * @typedef {{ part: SVGElement, texts: SVGTextElement[], x: number, y: number, width: number, height: number, size: number,
- *   rank: number, oval: Oval | null, line: Spot[] }} Label
+ *   rank: number, oval: Oval | null, line: Spot[], isBrief?: boolean }} Label
  * @typedef {{ x: number, y: number, right: number, down: number, isDot: boolean }} Oval the middle of a place, and its half axes, unless it
  *   is a dot
  * @typedef {{ x: number, y: number, across: [number, number] }} Spot a point of a line, and the direction at right angles to it
+ * @typedef {{ now: Taken, scale: number, ovals: Map<Label, Edges | null> }} Work what the labels lie on, the pixels per unit, and the boxes
+ *   of places
  * @typedef {import("./ink.js").Edges} Edges
  * @typedef {import("./spots.js").Ground} Ground
  * @typedef {import("./spots.js").Taken} Taken
@@ -14,26 +16,21 @@
  */
 import { HALO } from "./arrows.js";
 import { Boxes, edges } from "./boxes.js";
-import { isDot, lead, reachOf } from "./dots.js";
+import { further, reaches, RINGS, spots } from "./candidates.js";
+import { isDot, lead, leadFrom } from "./dots.js";
 import { pointsOf } from "./ink.js";
-import { endSpot, leaderBoxes } from "./leading.js";
+import { arcSpot, endSpot, leaderBoxes } from "./leading.js";
 import { freeSpot, sight } from "./spots.js";
-/** The bounds of the letters' height, in pixels; the height of a line for that; and the distance of a label from its place, in pixels. */
+/** The bounds of the letters' height, in pixels; and the height of a line for that. */
 const LEAST = 11.2, MOST = 14, LINE = 1.25;
-export const APART = 3;
-/** The largest part of an oval that a label inside it may fill. */
-const FILLED = 1.6;
-/** The rank up to which labels are shown even if they have to lie on lines: those of the source, the sink and the selection. */
-const NEEDED = 0;
-/** The spots of a place's label, around the place, and between these if it is further out; and of an arc's, from where Graphviz put it, in
- * parts of its size. */
-export const AROUND = [[1, 0], [-1, 0], [0, -1], [0, 1], [1, -1], [1, 1], [-1, -1], [-1, 1]];
-const BETWEEN = [[0.5, -1], [-0.5, -1], [0.5, 1], [-0.5, 1], [1, -0.5], [1, 0.5], [-1, -0.5], [-1, 0.5]];
-const BESIDE = [[0, 0], [0, -0.3], [0, 0.3], [0.3, 0], [-0.3, 0], [0, -0.6], [0, 0.6], [0.3, -0.3], [-0.3, 0.3]];
-/** Which points of an arc's line its label may lie beside, the best first; and how far the arrow reaches from the line, in pixels. */
-const ALONG = [6, 4, 8, 2, 10], ARROW = 6.5;
-/** How many text lines further out a label may lie, and the most that this may be, in units. The selection always has a label. */
-const RINGS = [1, 2, 3, 4, 5, 6, 8, 10], FURTHEST = 32;
+/** The rank up to which labels are shown even if they have to lie on lines: those of the source, the sink and the selection; and the one
+ * up to which a thin line may lead from an arc to its label. */
+const NEEDED = 0, LED = 1;
+/** Which points of an arc's line its label may lie beside, the best first; and how far further out it may lie, in units. The selection
+ * always has a label. */
+const ALONG = [6, 4, 8, 2, 10], FURTHEST = 32;
+/** What the thin line to a label of the bottleneck may cost, in pixels of its length. */
+const FAR = 180;
 /**
  * The width of texts, in letters of one pixel.
  * @type {Map<string, number>}
@@ -99,14 +96,6 @@ function ovalOf(part) {
 }
 
 /**
- * Returns how far a label's place reaches to the right and downwards, in pixels.
- * @param {Label} label
- * @param {number} scale
- */
-const reaches = ({ part, oval }, scale) => (oval?.isDot ? [reachOf(part), reachOf(part)]
-  : [oval?.right ?? 0, oval?.down ?? 0].map((it) => it * scale));
-
-/**
  * Returns the rank of a label, the most important first: the source and the sink, the bottleneck or what differs, places, full arcs, other
  * arcs.
  * @param {SVGElement} part
@@ -115,6 +104,33 @@ function rank(part) {
   if (part.matches(".node")) return part.querySelectorAll("ellipse:not(.halo)").length > 1 ? 0 : 2;
   return part.matches(".cut, .more, .less, .come, .gone, .else") ? 1 : part.matches(".full") ? 3 : 4;
 }
+
+/**
+ * Returns a label without its second line.
+ * @param {Label} label
+ * @returns {Label}
+ */
+const nameOnly = (label) => {
+  const { texts, size } = label, [name] = texts;
+  return { ...label, y: Number(name.getAttribute("y")) - size / 3, width: size * wide(name.textContent ?? ""), height: size * LINE,
+    isBrief: texts.length > 1 };
+};
+
+/**
+ * Returns the factor by which the letters of a label are larger than in the drawing.
+ * @param {Label} label
+ * @param {number} scale
+ */
+const larger = ({ size }, scale) => Math.min(MOST, Math.max(LEAST, size * scale)) / (size * scale);
+
+/**
+ * Returns half the width and half the height of a label, in pixels.
+ * @param {Label} label
+ * @param {number} scale
+ * @returns {[number, number]}
+ */
+const sizeOf = (label, scale) =>
+  [label.width * scale * larger(label, scale) / 2, label.height * scale * larger(label, scale) / 2];
 
 /**
  * What the labels lie on since they were arranged last.
@@ -127,6 +143,74 @@ export const takenNow = () => present && { ...present, taken: present.taken.copy
 
 /** @param {Label} label */
 const isDotOfEnd = ({ oval, rank: importance }) => Boolean(oval?.isDot) && importance <= NEEDED;
+
+/**
+ * Returns the rank of a label, with the selection first.
+ * @param {Label} label
+ */
+const first = ({ part, rank: importance }) => (part.matches(".chosen") ? -1 : importance);
+
+/**
+ * Takes the room of a label at a spot, and of the thin line to it, and returns its box if it is visible.
+ * @param {Label} label
+ * @param {Place | undefined} spot
+ * @param {Edges | null} root where the line begins
+ * @param {Work} work
+ */
+function take(label, spot, root, { now, scale }) {
+  const box = spot && edges(spot[0], spot[1], ...sizeOf(label, scale));
+  for (const it of box ? [box, ...root ? leaderBoxes(root, box) : []] : []) {
+    now.taken.add(it);
+    now.names.add(it);
+  }
+  put(label, larger(label, scale), spot && { x: spot[0] / scale, y: spot[1] / scale, isIn: spot[2] });
+  return box && sight(box, now) === "seen" ? box : null;
+}
+
+/**
+ * Returns true if the name of a place has its spot, or has none to find.
+ * @param {Label} label
+ * @param {Work} work
+ * @param {boolean} mayLead whether a thin line may lead to it
+ */
+function place(label, work, mayLead = true) {
+  const { now, scale } = work, size = sizeOf(label, scale), own = /** @type {Edges} */ (work.ovals.get(label)), isEnd = isDotOfEnd(label);
+  const near = spots(label, ...size, scale, 0), far = first(label) < 0 || isEnd ? further(label, ...size, scale, RINGS) : [];
+  const spot = isEnd ? endSpot(own, near, far, size, now, mayLead)
+    : freeSpot([...near, ...far], size, now, { own, isNeeded: first(label) <= NEEDED });
+  if (spot === null) return false;
+  const box = take(label, spot, isEnd ? own : null, work);
+  if (label.oval?.isDot) leadFrom(label.part, box, scale);
+  return true;
+}
+
+/**
+ * Places the label of an arc. One of the selection or of the bottleneck that has no room beside its line stands further out, with a thin
+ * line to it, or has no numbers.
+ * @param {Label} label
+ * @param {Work} work
+ */
+function placeArc(label, work) {
+  const { part: arc, line } = label, { now, scale } = work, isChosen = first(label) < 0;
+  const half = (now.thicker * Number(arc.style.getPropertyValue("--thick")) + (isChosen ? HALO : 0)) / 2;
+  const boxOf = (/** @type {Spot} */ { x, y }) => edges(x * scale, y * scale, half, half);
+  const start = first(label) <= LED ? line.find((point) => sight(boxOf(point), now) === "seen") : undefined;
+  const root = start ? boxOf(start) : null;
+  /** @type {(form: Label, most: number) => boolean} */
+  const isPlaced = (form, most) => {
+    const size = sizeOf(form, scale), rings = RINGS.filter((ring) => ring * size[1] < FURTHEST * scale || isChosen && !root);
+    const found = [...spots(form, ...size, scale, half), ...further(form, ...size, scale, rings)];
+    const beside = freeSpot(found, size, now, { arc, isNeeded: isChosen && !root });
+    const isBeside = beside && (!root || sight(edges(beside[0], beside[1], ...size), now) === "seen");
+    const led = start && root && !isBeside
+      ? arcSpot(root, further({ ...form, line: [start] }, ...size, scale, RINGS), size, now, arc, most) : undefined;
+    const box = take(form, isBeside ? beside : led, led ? root : null, work);
+    lead(arc, led ? box : null, [scale * (start?.x ?? 0), scale * (start?.y ?? 0)], half, scale);
+    return Boolean(isBeside || led);
+  };
+  if (isPlaced(label, FAR) || !root) return;
+  if (!isPlaced(nameOnly(label), FAR) && isChosen) isPlaced(label, Infinity);
+}
 
 /**
  * Shows the labels that find a spot, and hides the others.
@@ -142,74 +226,13 @@ export function arrange(labels, scale, ground) {
     for (const boxes of box ? [taken, places, ...isDotOfEnd(label) ? [names] : []] : []) boxes.add(/** @type {Edges} */ (box));
     return [label, box];
   }));
-  const first = (/** @type {Label} */ label) => (label.part.matches(".chosen") ? -1 : label.rank);
-  const place = (/** @type {Label} */ label, mayLead = true) => {
-    const by = Math.min(MOST, Math.max(LEAST, label.size * scale)) / (label.size * scale);
-    const [right, down] = [label.width * scale * by / 2, label.height * scale * by / 2], own = ovals.get(label) ?? null;
-    const isChosen = first(label) < 0, isEnd = isDotOfEnd(label);
-    const rings = RINGS.filter((ring) => isChosen || isEnd || !label.oval && ring * down < FURTHEST * scale);
-    const half = (ground.thicker * Number(label.part.style.getPropertyValue("--thick")) + (isChosen ? HALO : 0)) / 2;
-    const near = spots(label, right, down, scale, half), far = further(label, right, down, scale, rings);
-    const arc = label.oval ? undefined : label.part, isNeeded = first(label) <= NEEDED;
-    const spot = own && isEnd ? endSpot(own, near, far, [right, down], now, mayLead)
-      : freeSpot([...near, ...far], [right, down], now, { own, arc, isNeeded });
-    if (spot === null) return false;
-    const box = spot && edges(spot[0], spot[1], right, down);
-    for (const it of box ? [box, ...own && isEnd ? leaderBoxes(own, box) : []] : []) {
-      taken.add(it);
-      names.add(it);
-    }
-    put(label, by, spot && { x: spot[0] / scale, y: spot[1] / scale, isIn: spot[2] });
-    if (label.oval?.isDot) lead(label.part, box && sight(box, ground) === "seen" ? box : null, scale);
-    return true;
-  };
+  const work = { now, scale, ovals };
   const sorted = [...labels].sort((one, other) => first(one) - first(other));
   const chosen = sorted.filter((label) => first(label) < 0), others = sorted.slice(chosen.length);
-  for (const label of chosen) place(label);
+  for (const label of chosen) (label.oval ? place : placeArc)(label, work);
   // A name to which a line leads takes the room of none that lies beside its place.
-  const led = others.filter(isDotOfEnd).filter((label) => !place(label, false));
-  for (const label of [...led, ...others.filter((it) => !isDotOfEnd(it))]) place(label);
-}
-
-/**
- * Returns where the middle of a label may lie, in pixels, the best spot first, and whether that is inside its own place.
- * @param {Label} label
- * @param {number} right how far it reaches
- * @param {number} down
- * @param {number} scale
- * @param {number} half half the thickness of the arc's line
- * @returns {Place[]}
- */
-function spots(label, right, down, scale, half) {
-  const { oval, line, x, y } = label, [ovalRight, ovalDown] = reaches(label, scale);
-  if (!oval) {
-    const near = BESIDE.map(([along, below]) => /** @type {Place} */ (
-      [x * scale + 2 * along * right, y * scale + 2 * below * down, false]));
-    return near.concat(line.flatMap(({ x: pointX, y: pointY, across: [along, below] }) => {
-      const reach = Math.abs(along) * right + Math.abs(below) * down + APART, outs = [half, ARROW].map((by) => reach + by);
-      return outs.flatMap((out) => [out, -out]).map((out) => /** @type {Place} */ (
-        [pointX * scale + out * along, pointY * scale + out * below, false]));
-    }));
-  }
-  const isIn = Math.max(right / ovalRight, down / ovalDown) < 1 && (right / ovalRight) ** 2 + (down / ovalDown) ** 2 <= FILLED;
-  if (isIn) return [[x * scale, y * scale, true]];
-  return AROUND.map(([along, below]) => [oval.x * scale + along * (ovalRight + right + APART),
-    oval.y * scale + below * (ovalDown + down + (along && !oval.isDot ? 0 : APART)), false]);
-}
-
-/**
- * Returns spots further out.
- * @param {Label} label
- * @param {number} right
- * @param {number} down
- * @param {number} scale
- * @param {number[]} rings
- * @returns {Place[]}
- */
-function further(label, right, down, scale, rings) {
-  const from = label.oval ?? label.line[0] ?? label, [aside, above] = reaches(label, scale);
-  return rings.flatMap((ring) => (label.oval ? [...AROUND, ...BETWEEN] : AROUND).map(([along, below]) => /** @type {Place} */ (
-    [from.x * scale + along * (aside + right + ring * down), from.y * scale + below * (above + down + ring * down), false])));
+  const led = others.filter(isDotOfEnd).filter((label) => !place(label, work, false));
+  for (const label of [...led, ...others.filter((it) => !isDotOfEnd(it))]) (label.oval ? place : placeArc)(label, work);
 }
 
 /**
@@ -218,8 +241,9 @@ function further(label, right, down, scale, rings) {
  * @param {number} by the factor by which its letters are larger
  * @param {{ x: number, y: number, isIn: boolean } | undefined} spot
  */
-function put({ part, texts, x, y }, by, spot) {
+function put({ part, texts, x, y, isBrief }, by, spot) {
   part.classList.toggle("unlabelled", !spot);
+  part.classList.toggle("brief", Boolean(isBrief));
   part.classList.toggle("spread", Boolean(spot) && !spot?.isIn);
   const moved = spot ? `translate(${spot.x} ${spot.y}) scale(${by}) translate(${-x} ${-y})` : "";
   for (const text of spot ? texts : []) if ((text.getAttribute("transform") ?? "") !== moved) text.setAttribute("transform", moved);

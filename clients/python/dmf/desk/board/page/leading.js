@@ -1,5 +1,6 @@
 /**
- * The names of sources and sinks that are dots, which are never dropped: beside it, or further out with a thin line to it.
+ * Labels to which a thin line leads: names of sources and sinks that are dots, which are never dropped, and labels of the selected arc and
+ * of the bottleneck that have no room beside their lines.
  * @typedef {import("./ink.js").Edges} Edges
  * @typedef {import("./spots.js").Place} Place
  * @typedef {import("./spots.js").Taken} Taken
@@ -44,12 +45,15 @@ const crossed = (line, own, { ink, places }) =>
  * @param {Place[]} found
  * @param {(spot: Place) => Edges} boxOf the box of a name at a spot
  * @param {Taken} ground
+ * @param {number} most what it may cost
+ * @param {(box: Edges) => boolean} isClear whether a name that is so near that no line leads to it is not read as that of another
  */
-function cheapest(own, found, boxOf, ground) {
+function cheapest(own, found, boxOf, ground, most = Infinity,
+  isClear = (box) => ground.places.isFree(larger(box, MISREAD), own)) {
   const [x, y] = middleOf(own), far = found.map((spot) => ({ spot, away: Math.hypot(spot[0] - x, spot[1] - y) }));
   /** @type {Place | undefined} */
   let best;
-  let least = Infinity;
+  let least = most;
   for (const { spot, away } of far.sort((one, other) => one.away - other.away)) {
     const box = boxOf(spot);
     // What is further away costs more in any case.
@@ -57,13 +61,25 @@ function cheapest(own, found, boxOf, ground) {
     if (sight(box, ground) !== "seen" || !ground.taken.isFree(box, null)) continue;
     const covering = away + COVERED * ground.ink.under(box), line = leaderBoxes(own, box);
     if (covering >= least || line.some((it) => !ground.names.isFree(it, null))) continue;
-    // Beside another place, only a line tells whose name it is.
-    if (!line.length && !ground.places.isFree(larger(box, MISREAD), own)) continue;
+    // Beside another place or line, only a line tells whose name it is.
+    if (!line.length && !isClear(box)) continue;
     const cost = covering + CROSSED * crossed(line, own, ground);
     if (cost < least) [best, least] = [spot, cost];
   }
   return best;
 }
+
+/**
+ * Returns the spot of an arc's label further out that costs least, or undefined if there is none for what it may cost.
+ * @param {Edges} root where the line to it begins, on the arc's own line
+ * @param {Place[]} far
+ * @param {[number, number]} size half the width and half the height of the label
+ * @param {Taken} ground
+ * @param {Element} arc
+ * @param {number} most what it may cost, in pixels of the line's length
+ */
+export const arcSpot = (root, far, size, ground, arc, most) =>
+  cheapest(root, far, ([x, y]) => edges(x, y, ...size), ground, most, (box) => ground.ink.isNearest(box, arc));
 
 /**
  * Returns the spot of the name of a source or a sink: beside it, or else the one that costs least, or else any. Returns null if there is no

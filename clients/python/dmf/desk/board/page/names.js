@@ -8,9 +8,10 @@
  * @typedef {import("./spots.js").Taken} Taken
  */
 import { edges, isApart } from "./boxes.js";
+import { APART, AROUND } from "./candidates.js";
 import { at } from "./elements.js";
 import { ground, isMarked, NAMES, OF_LIMIT } from "./ground.js";
-import { APART, AROUND, takenNow } from "./labels.js";
+import { takenNow } from "./labels.js";
 import { freeSpot } from "./spots.js";
 import { scale } from "./view.js";
 

@@ -23,6 +23,8 @@ const BEFORE = "b", SHUT = "s", STILL = "-";
 const FADED = 0.16;
 /** The size of a shade, and of what a place may reach, in units. */
 const ROUND = 90, RIM = 60;
+/** The least radius there in usual lengths of lines, so that it has no gaps between the places of a square. */
+const CLOSED = 0.75;
 /** The most lines at sources and sinks that names avoid. */
 const MOST_AVOIDED = 1000;
 
@@ -113,11 +115,12 @@ function paintLines(brush, drawn) {
  * @param {Brush} brush
  */
 function shadeBefore({ pen, colour }) {
+  const radius = Math.max(ROUND, CLOSED * ground.usual);
   pen.beginPath();
   for (const { x, y, look } of places.values()) {
     if (look !== BEFORE) continue;
     pen.moveTo(x, y);
-    pen.arc(x, y, ROUND, 0, 2 * Math.PI);
+    pen.arc(x, y, radius, 0, 2 * Math.PI);
   }
   pen.fillStyle = colour("side");
   pen.fill();

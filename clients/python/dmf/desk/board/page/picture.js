@@ -61,11 +61,11 @@ export function showNear(node, isMoved = false) {
   return showPicture();
 }
 
-/** Shows what is near the middle of the view, and what is near the bottleneck once the view is wide again. */
+/** Shows what is near the middle of the view, and what is near the selection or the bottleneck once the view is wide again. */
 function follow() {
   const node = middlePlace();
   if (node && String(node) !== near) showNear(node, true);
-  else if (isFollowing && isFar()) showNear("", true);
+  else if (isFollowing && isFar() && !partOf(theChoice())) showNear("", true);
 }
 
 /** Shows the picture for another form of the window. Only then, since no other change moves a place. */

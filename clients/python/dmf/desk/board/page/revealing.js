@@ -5,7 +5,7 @@
  */
 import { theChoice } from "./choice.js";
 import { partOf } from "./drawing.js";
-import { groundBox, isGround } from "./ground.js";
+import { groundBox, isFar, isGround } from "./ground.js";
 import { showNear, usualPixels } from "./picture.js";
 import { ask } from "./state.js";
 import { fit, freeBox, move, reveal, scale, zoom } from "./view.js";
@@ -32,15 +32,20 @@ function approach(box) {
   move(x * scale(), y * scale());
 }
 
+/**
+ * Draws what is near the selection.
+ * @param {import("./state.js").Choice} chosen
+ */
+async function drawNear(chosen) {
+  const node = chosen.node ?? (await ask(`arc?number=${chosen.arc}`, undefined, true))?.tail_node;
+  if (node && chosen === theChoice()) await showNear(node, isGround());
+}
+
 /** Moves the picture to the selection, after drawing it if it was not drawn. */
 export async function revealChosen() {
   const chosen = theChoice();
-  if (chosen && !partOf(chosen) && !isGround()) {
-    const node = chosen.node ?? (await ask(`arc?number=${chosen.arc}`, undefined, true))?.tail_node;
-    if (!node || chosen !== theChoice()) return;
-    await showNear(node);
-    if (chosen !== theChoice()) return;
-  }
+  if (chosen && !partOf(chosen) && !isGround()) await drawNear(chosen);
+  if (chosen !== theChoice()) return;
   // Its label may lie far away, and comes nearer.
   const shape = /** @type {SVGGraphicsElement | null | undefined} */ (partOf(chosen)?.querySelector("ellipse, path"));
   const box = shape?.getBBox() ?? groundBox(".chosen");
@@ -48,4 +53,6 @@ export async function revealChosen() {
   approach(box);
   if (space(box) < FILLED) fit(box);
   else reveal(box);
+  // Of all arcs seen from far away, only those that are drawn in front have labels.
+  if (chosen && isFar() && !partOf(chosen)) await drawNear(chosen);
 }

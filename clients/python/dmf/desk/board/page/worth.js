@@ -103,7 +103,7 @@ function pairsNote(pairs) {
   const two = `two ${noun()}s`;
   if (!pairs) return `This page does not list which ${two} cost most to lose together; “worst pairs” in dmf plan does.`;
   return pairs.length
-    ? `The ${two} of each row cost most to lose together: of ${present().value}${units()}, so much is left if both are closed.`
+    ? `The ${two} of each row cost most to lose together. The table shows what is left of ${present().value}${units()} if both are closed.`
     : `No ${two} together cost anything to lose.`;
 }
 
@@ -119,7 +119,7 @@ function showTable(id, what, lost, more, rows) {
   const table = `${id}-table`, rest = more ? ` ${grouped(more)} more cost something.` : "";
   at(table).hidden = !rows.length;
   at(`${id}-note`).textContent = rows.length
-    ? `Of ${present().value}${units()}, so much is left if ${lost}.${rest}`
+    ? `What is left of ${present().value}${units()} if ${lost}.${rest}`
     : `No ${what} alone costs anything to lose.`;
   fill(table, caption(), [upper(what), "without it", "lost"],
     rows.map((row) => [row.cell, numberCell(row.without), numberCell(row.lost)]));
