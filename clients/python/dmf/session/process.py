@@ -295,31 +295,28 @@ def answer_to(
     called with the process. Raises what `start` raises."""
     used = os.fspath(program)
     executable.refuse_other_version(used)
-    pipe = subprocess.PIPE
-    try:
-        # In a session of its own, since Ctrl-C at a terminal is meant for the caller alone, who
-        # then ends the program.
-        process = subprocess.Popen(
-            [used, *words], stdin=file, stdout=pipe, stderr=pipe, start_new_session=True
-        )
-    except OSError as error:
-        if error.filename == used:
-            executable.refuse_unrun(used, error)
-        raise
-    running.note(process)
-    with process:
+    # Standard error goes to a file, as that of a session does. `communicate` would read both, but
+    # after Ctrl-C it waits for a quarter of a second for the program to end by itself.
+    with scratch() as said:
         try:
-            if begun:
-                begun(process)
-            answer, said = process.communicate()
-        except BaseException:
-            process.kill()
+            # In a session of its own, since Ctrl-C at a terminal is meant for the caller alone, who
+            # then ends the program.
+            process = subprocess.Popen(
+                [used, *words],
+                stdin=file,
+                stdout=subprocess.PIPE,
+                stderr=said,
+                start_new_session=True,
+            )
+        except OSError as error:
+            if error.filename == used:
+                executable.refuse_unrun(used, error)
             raise
-        finally:
-            running.forget(process)
+        answer = _read_all(process, begun)
+        said.seek(0)
+        told = said.read(MOST_TOLD).decode(errors="replace").strip()
     if process.returncode == 0:
         return answer
-    told = said[:MOST_TOLD].decode(errors="replace").strip()
     fault = _refusal(told)
     if fault:
         raise fault
@@ -328,6 +325,24 @@ def answer_to(
     )
     executable.refuse_unfit(used, ended)
     raise ended
+
+
+def _read_all(process: subprocess.Popen[bytes], begun: Begun | None) -> bytes:
+    """Return what a program writes until it ends. It is killed if that is broken off."""
+    running.note(process)
+    assert process.stdout
+    with process:
+        try:
+            if begun:
+                begun(process)
+            answer = process.stdout.read()
+            process.wait()
+        except BaseException:
+            process.kill()
+            raise
+        finally:
+            running.forget(process)
+    return answer
 
 
 def _end(process: subprocess.Popen[bytes], told: IO[bytes], owner: int) -> None:
