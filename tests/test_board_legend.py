@@ -15,6 +15,7 @@ from board_pages import Page
 from board_running import Board, board
 from desk_shared import PIPES, Pipe, greatest, water
 from dmf.desk.board.shown import MOST_LAID_OUT
+from dmf.desk.board.views import MOST_LOSSES
 from test_board_access import as_before, show
 
 pytestmark = pytest.mark.seconds(20)
@@ -287,3 +288,56 @@ def test_one_row(driver: Any, width: int, rows: int, high: int) -> None:
         press(page, "full")
         filtered(page, it, lambda row: shade(row) == "full")
         as_before(driver)
+
+
+# By the module that the page has loaded: in which words the legend tells what is lost without these
+# arcs.
+SHADES = """
+const [numbers, tell] = arguments;
+import(new URL("colourings.js", location)).then(({ colourings, shadeOf }) => {
+  const shades = colourings().find(({ name }) => name === "worth")?.shades() ?? [];
+  const mark = { state: "f", use: 1, change: ".", width: 1, way: ">" };
+  tell(numbers.map((number) => shades.length && shadeOf(shades, { ...mark, number }).words));
+});
+"""
+
+
+@pytest.mark.parametrize("into", [5_000, 6_000])
+def test_losses_of_many(driver: Any, tmp_path: Path, into: int) -> None:
+    """Of many arcs the legend does not have each loss, and says of the others what is known: that
+    nothing is lost, or at most as much as the least that it has."""
+    count = MOST_LOSSES + 100
+    table = tmp_path / "many.csv"
+    table.write_text(f"from,to,litres\nS,A,{into}\n" + "A,T,1\n" * count)
+    each = 1 if count <= into else 0
+    with board(str(table)) as it:
+        page = Page(driver, it.address)
+        page.know_worth()
+        told = driver.execute_async_script(SHADES, [1, *range(2, count + 2), count + 2])
+        assert told[0] == f"{min(into, count)} lost"
+        assert set(told[1:-1]) == ({"1 lost", "at most 1 lost"} if each else {"nothing lost"})
+        # That of an arc which was added since then.
+        assert told[-1] == "not known yet"
+        driver.get("about:blank")
+
+
+# What is said of a second arc beside one whose gain is not told, before and after a search begins.
+SECOND = """
+const [number, tell] = arguments, load = (name) => import(new URL(name, location));
+Promise.all([load("about_arc.js"), load("worth.js")]).then(([{ secondOne }, { findWorth }]) => {
+  const words = () => secondOne({ number, limit: true, won: "" }), before = words();
+  findWorth();
+  tell([before, words()]);
+});
+"""
+
+
+def test_a_second_one_is_not_known_yet(driver: Any) -> None:
+    """While it is being found what second arcs bring, the page says of one that it does not list
+    that this is not known yet; and only afterwards that it is not tried."""
+    with board(PIPES) as it:
+        page = Page(driver, it.address)
+        page.know_worth()
+        unlisted = len(water()) + 1
+        assert driver.execute_async_script(SECOND, unlisted) == ["not tried", "not known yet"]
+        driver.get("about:blank")

@@ -37,7 +37,8 @@ def test_files() -> None:
         ), f"a saved table: {rows}"
         for name, text, status, told in (
             ("two.csv", "A,C,1\nB,C,1\n", 3, '--source "A", as often'),
-            ("ring.csv", "A,B,1\nB,A,1\n", 3, "each place has something that leads to it"),
+            ("two.csv", "A,C,1\nB,C,1\n", 3, "from? Nothing leads to any of these: 'A', 'B'; "),
+            ("ring.csv", "A,B,1\nB,A,1\n", 3, "from? Each place has something that leads to it"),
             ("bad.csv", "A,B,x y\nB,C,1.5\n", 3, "'x y' is not a number"),
             ("bad.max", "p max 2 1\nn 1 s\nn 2 t\na 1 2 x\n", 3, "not a number"),
         ):

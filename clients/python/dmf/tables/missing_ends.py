@@ -43,9 +43,9 @@ def _only_place(plan: NetworkTables, kind: str, way: str) -> str:
         ", .." if len(choice) > MOST_TOLD else ""
     )
     why = (
-        f"nothing {way} any of these: {listed}"
+        f"Nothing {way} any of these: {listed}"
         if found
-        else f"each place has something that {way} it; the places are {listed}"
+        else f"Each place has something that {way} it; the places are {listed}"
     )
     many = ", as often as there are such places" if len(found) > 1 else ""
     fault = TableFault(f'where {where}? {why}; say --{KINDS[kind]} "{display(choice[0])}"{many}')

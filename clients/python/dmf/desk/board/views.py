@@ -267,12 +267,12 @@ NOT_KNOWN = {"without": "", "lost": ""}
 
 def worth_view(desk: Desk) -> Json:
     """Return the arcs and the places that are worst to lose, how many more of each cost something,
-    the worst pairs, the arcs that are best to have twice, and the loss of each arc of the table by
-    its number: of many, those of the worst. Nothing is known if the search failed, or the network
-    is too large."""
+    the worst pairs, the arcs that are best to have twice, the loss of each arc of the table by its
+    number: of many, those of the worst; and the last number of an arc. Nothing is known if the
+    search failed, or the network is too large."""
     if not desk.state.answers.knows_worth:
         nothing: Json = {"worst": [], "more": 0}
-        unknown: Json = {"places": nothing, "seconds": None, "pairs": None, "losses": {}}
+        unknown: Json = {"places": nothing, "seconds": None, "pairs": None, "losses": {}, "last": 0}
         return {"is_known": False, **nothing, **unknown}
     found, more = worst(desk, MOST_LOSSES)
     pictured = [] if more else desk.network.pictured()
@@ -285,6 +285,7 @@ def worth_view(desk: Desk) -> Json:
         "seconds": _best_seconds(desk),
         "pairs": _worst_pairs(desk),
         "losses": {it.number: plain_text(it.loss) for it in told},
+        "last": len(desk.network.lines),
     }
 
 

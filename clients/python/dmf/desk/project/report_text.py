@@ -281,7 +281,8 @@ def _method(found: Findings) -> Iterator[str]:
     yield (
         f"<p>Values and bottlenecks are those of dmf {__version__}, whose solves are proved to "
         f"find the greatest value, and <code>dmf check</code> judged each flow "
-        f"({listed(judged, MOST_NAMES)}); this report is only tested.</p>"
+        f"({listed(judged, MOST_NAMES)}); the code that writes them into this report is tested, "
+        f"but not proved.</p>"
     )
     if found.assumed:
         yield (

@@ -48,13 +48,19 @@ const BANDS = 4;
  * @type {Map<number, number>}
  */
 let losses = new Map();
+/** How many of the least losses that cost something are not among them, and the highest number of an arc when they were found. */
+let untold = 0, newest = 0;
 
 /**
  * Sets the numbers of the fourth colouring, which is not offered if there are none.
  * @param {Map<number, number>} found
+ * @param {number} others how many others cost something, at most as much as the least of these
+ * @param {number} last the highest number of an arc
  */
-export function setLosses(found) {
+export function setLosses(found, others, last) {
   losses = found;
+  untold = others;
+  newest = last;
 }
 
 /** Returns the shades of loss: equal parts of the largest loss, each named by the losses in it. */
@@ -70,9 +76,12 @@ function worth() {
     found.push({ words: `${low === high ? low : `${low}–${high}`} lost`, ink: `worth-${rank}`, filter: "",
       has: ({ number }) => band(losses.get(number) ?? 0) === rank });
   }
+  const isTold = (/** @type {Mark} */ { number }) => losses.has(number) || !untold && number <= newest;
+  const least = Math.min(...losses.values());
   return [...found, CLOSED,
-    { words: "nothing lost", ink: "unused", filter: "", has: (/** @type {Mark} */ { number }) => losses.has(number) },
-    { words: "not tried", ink: "unused", filter: "", isDashed: true, has: () => true }];
+    { words: "nothing lost", ink: "unused", filter: "", has: isTold },
+    { words: `at most ${least} lost`, ink: "unused", filter: "", isDashed: true, has: ({ number }) => number <= newest },
+    { words: "not known yet", ink: "unused", filter: "", isDashed: true, has: () => true }];
 }
 
 /** @type {Colouring[]} */

@@ -4,7 +4,7 @@
  * @typedef {import("./colourings.js").Mark} Mark
  * @typedef {import("./colourings.js").Shade} Shade
  */
-import { field } from "./elements.js";
+import { at, field, onClick } from "./elements.js";
 import { ask, present } from "./state.js";
 
 let asked = 0;
@@ -73,4 +73,25 @@ export async function toggleFilter(shade) {
 /** Drops a filter that belongs to another colouring. */
 export function dropUntyped() {
   untyped = null;
+}
+
+/** Whether the button asked for what can be typed. */
+let isAsked = false;
+
+/** Shows what can be typed while the field has the focus, or after the button asked for it. */
+function showHelp() {
+  const isShown = isAsked || document.activeElement === field("filter");
+  at("filter-forms").hidden = !isShown;
+  at("filter-help").setAttribute("aria-expanded", String(isShown));
+}
+
+export function beginHelp() {
+  onClick("filter-help", () => {
+    isAsked = !isAsked;
+    showHelp();
+  });
+  at("filter").addEventListener("focus", showHelp);
+  // When a press takes the focus away, all stays in its place until the click has reached what it is meant for.
+  document.addEventListener("click", showHelp);
+  document.addEventListener("keyup", showHelp);
 }

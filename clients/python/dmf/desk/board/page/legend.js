@@ -53,9 +53,11 @@ function showLegend() {
 /**
  * Offers the colouring by what is lost without each arc, or removes it if that is not known.
  * @param {Map<number, number>} losses
+ * @param {number} others how many others cost something
+ * @param {number} last the highest number of an arc
  */
-export function colourByLoss(losses) {
-  setLosses(losses);
+export function colourByLoss(losses, others, last) {
+  setLosses(losses, others, last);
   if (chosen === "worth" && !losses.size) chosen = "use";
   dropUntyped();
   showLegend();

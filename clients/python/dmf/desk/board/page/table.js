@@ -1,11 +1,11 @@
 /**
  * The table of all arcs. It has the visible rows, and requests others while it is scrolled.
  * @typedef {import("./rows.js").Arc} Arc
- * @typedef {{ total: number, first: number, rows: Arc[], reading: string, fault: string }} Part
+ * @typedef {{ total: number, first: number, rows: Arc[], reading: string, fault: string, sort: string }} Part
  */
 import { choose, theChoice } from "./choice.js";
 import { at, make, onClick, replace } from "./elements.js";
-import { filterWords, typeFilter } from "./filter.js";
+import { beginHelp, filterWords, typeFilter } from "./filter.js";
 import { isPicked, pickMore, pickThese, toggle } from "./many.js";
 import { trouble } from "./messages.js";
 import { COLUMNS, fill, HEIGHT, NUMBERS, row, spacer, title } from "./rows.js";
@@ -16,26 +16,35 @@ import { sentence, upper } from "./words.js";
 /** The rows in one request; and the rows by which Page Up and Page Down move. */
 const AT_ONCE = 36, PAGE = 10;
 /** @type {Part} */
-let part = { total: 0, first: 0, rows: [], reading: "", fault: "" };
+let part = { total: 0, first: 0, rows: [], reading: "", fault: "", sort: "" };
 /**
  * The rows in the page, by their places and their arcs' numbers.
  * @type {Map<string, HTMLTableRowElement>}
  */
 let shown = new Map();
-let order = "", asked = 0, current = 0, anchor = 0, isAsking = false, isLate = false;
+let asked = 0, current = 0, anchor = 0, isAsking = false, isLate = false;
+/** The order that a click on a column's title chose, and the one that the board chooses before. */
+let order = "";
+const USUAL = "usual";
 /** The length of the longest amount so far, which sets the width of the columns. */
 let signs = 0;
 
 /**
- * Returns the order after a click on a column's title: of numbers the largest come first.
+ * Returns the order after a click on a column's title: of numbers the largest come first. After both ways it is the usual one again.
  * @param {string} column
  */
 function nextOrder(column) {
   const orders = [...NUMBERS.includes(column) ? [`-${column}`, column] : [column, `-${column}`], ""];
-  return orders[(orders.indexOf(order) + 1) % orders.length];
+  return orders[(orders.indexOf(part.sort) + 1) % orders.length];
 }
 
-const words = () => `filter=${encodeURIComponent(filterWords())}&sort=${order}`;
+/** Returns the order to ask for. Until one is chosen, it changes only while the table is visible, without the pointer and the focus. */
+function sorting() {
+  const box = at("rows"), isHeld = part.sort && (box.matches(":hover") || box.contains(document.activeElement));
+  return order || (at("part-all").hidden || isHeld ? part.sort : USUAL);
+}
+
+const words = (sort = part.sort) => `filter=${encodeURIComponent(filterWords())}&sort=${sort}`;
 /** The filter whose rows are shown. */
 let filtered = "";
 
@@ -51,18 +60,24 @@ async function numbers(first, count) {
   return told ? told.numbers : null;
 }
 
-/** Updates the visible rows after a change of the state, the filter or the order. */
-export async function showTable() {
+/**
+ * Updates the visible rows after a change of the state, the filter or the order.
+ * @param {string} sort
+ */
+async function showSorted(sort) {
   const turn = (asked += 1);
   const above = Math.floor(at("rows").scrollTop / HEIGHT) - AT_ONCE / 3, first = Math.max(0, Math.min(above, part.total - AT_ONCE));
-  const told = await ask(`rows?${words()}&first=${first}&count=${AT_ONCE}`);
+  const told = await ask(`rows?${words(sort)}&first=${first}&count=${AT_ONCE}`);
   if (turn !== asked || !told) return;
+  if (told.sort !== part.sort) at("rows").scrollTop = 0;
   part = told;
   at("filter-told").textContent = reading();
   at("filter").setAttribute("aria-invalid", String(Boolean(part.fault)));
   current = Math.min(current, Math.max(0, part.total - 1));
   draw();
 }
+
+export const showTable = () => showSorted(sorting());
 
 /** Returns how the filter is understood, and how many rows match. */
 function reading() {
@@ -89,9 +104,9 @@ function draw() {
     sort.addEventListener("click", () => {
       order = nextOrder(column);
       at("rows").scrollTop = 0;
-      showTable();
+      showSorted(order || USUAL);
     });
-    const way = order === column ? "ascending" : order === `-${column}` ? "descending" : "none";
+    const way = part.sort === column ? "ascending" : part.sort === `-${column}` ? "descending" : "none";
     return make("th", sort, { scope: "col", class: column, "aria-sort": way });
   });
   const grid = /** @type {HTMLTableElement} */ (at("grid"));
@@ -139,7 +154,7 @@ async function go(place) {
 /** Marks the rows and, if the table is visible, updates them. */
 export async function showRows() {
   point();
-  if (!at("part-all").hidden) await scrolled();
+  if (!at("part-all").hidden) await (order ? scrolled() : showTable());
 }
 
 /** Goes to the row of the selected arc, if it was selected elsewhere while the table is visible, and it matches the filter. */
@@ -203,6 +218,7 @@ async function typed(event) {
 }
 
 export function beginTable() {
+  beginHelp();
   at("rows").addEventListener("scroll", scrolled);
   at("grid").addEventListener("click", clicked);
   at("grid").addEventListener("keydown", typed);

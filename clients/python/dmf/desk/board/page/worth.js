@@ -6,7 +6,8 @@
  * @typedef {{ worst: LostPlace[], more: number }} LostPlaces
  * @typedef {{ arcs: Arc[], without: string, lost: string }} LostPair
  * @typedef {{ is_finding: boolean, is_known: boolean, worst: Arc[], more: number, places: LostPlaces,
- *   seconds: import("./best.js").BestSeconds | null, pairs: LostPair[] | null, losses: Record<string, string> }} Worth
+ *   seconds: import("./best.js").BestSeconds | null, pairs: LostPair[] | null, losses: Record<string, string>, last: number }} Worth
+ *   `losses` are those of all arcs, or the largest, by the arcs' numbers, of which `last` is the highest
  */
 import { markBestOld, showBest } from "./best.js";
 import { arcButton, pick, pickPlace } from "./choice.js";
@@ -20,6 +21,8 @@ const SOON = 20, LATE = 2000;
 /** What is said of numbers that a change has made old. */
 const OLD = "These are from before the change. The new ones are being found ..";
 let asked = 0;
+/** Whether the search in the present state has told what it can. */
+let isTold = false;
 /** @type {(() => unknown)[]} */
 const watchers = [];
 
@@ -38,8 +41,11 @@ export function findWorth() {
   follow(asked);
 }
 
+export const isWorthTold = () => isTold;
+
 /** @param {boolean} isOld */
 function markOld(isOld) {
+  isTold = !isOld;
   at("worst").classList.toggle("old", isOld);
   if (!isOld) return;
   markBestOld(OLD);
@@ -74,7 +80,8 @@ function show(told) {
   showTable("worst", noun(), "one of these is closed", told.more, told.worst.map((arc) => ({ ...arc, cell: pick(arc) })));
   const { worst, more } = told.places;
   showTable("worst-places", wording().place, wording().without, more, worst.map((place) => ({ ...place, cell: pickPlace(place) })));
-  colourByLoss(new Map(Object.entries(told.losses).map(([number, loss]) => [Number(number), Number(loss)])));
+  const losses = new Map(Object.entries(told.losses).map(([number, loss]) => [Number(number), Number(loss)]));
+  colourByLoss(losses, told.worst.length + told.more - [...losses.values()].filter(Boolean).length, told.last);
   for (const watcher of watchers) watcher();
 }
 
