@@ -147,7 +147,7 @@ def _present_lines(found: Findings) -> Iterator[str]:
     has_table = len(found.sections) > 1
     if has_table:
         yield from _scenarios(found)
-    yield '<div class="beside">'
+    yield '<div class="columns">'
     # The table of the scenarios has the steps, if they are few.
     if it.steps and not (has_table and len(it.steps) <= MOST_NAMES):
         yield from ("<div>", *_steps(it.steps, found.unit), "</div>")
