@@ -80,7 +80,7 @@ function worth() {
   const least = Math.min(...losses.values());
   return [...found, CLOSED,
     { words: "nothing lost", ink: "unused", filter: "", has: isTold },
-    { words: `at most ${least} lost`, ink: "unused", filter: "", isDashed: true, has: ({ number }) => number <= newest },
+    { words: `at most ${least} lost`, ink: "unused", filter: "", isDashed: true, has: (/** @type {Mark} */ { number }) => number <= newest },
     { words: "not known yet", ink: "unused", filter: "", isDashed: true, has: () => true }];
 }
 
