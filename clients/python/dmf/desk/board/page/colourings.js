@@ -76,11 +76,12 @@ function worth() {
     found.push({ words: `${low === high ? low : `${low}–${high}`} lost`, ink: `worth-${rank}`, filter: "",
       has: ({ number }) => band(losses.get(number) ?? 0) === rank });
   }
-  const isTold = (/** @type {Mark} */ { number }) => losses.has(number) || !untold && number <= newest;
+  const isThere = (/** @type {Mark} */ { number }) => number <= newest;
+  const isTold = (/** @type {Mark} */ mark) => losses.has(mark.number) || !untold && isThere(mark);
   const least = Math.min(...losses.values());
   return [...found, CLOSED,
     { words: "nothing lost", ink: "unused", filter: "", has: isTold },
-    { words: `at most ${least} lost`, ink: "unused", filter: "", isDashed: true, has: ({ number }) => number <= newest },
+    { words: `at most ${least} lost`, ink: "unused", filter: "", isDashed: true, has: isThere },
     { words: "not known yet", ink: "unused", filter: "", isDashed: true, has: () => true }];
 }
 
