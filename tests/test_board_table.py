@@ -16,7 +16,6 @@ from urllib.parse import quote
 import pytest
 from board_running import Board, board
 from desk_shared import PIPES, Pipe, greatest, swept, water, without
-from dmf.desk.board.selection import MOST_SORTED
 
 pytestmark = pytest.mark.seconds(20)
 
@@ -179,33 +178,6 @@ def test_use(tmp_path: Path) -> None:
             for text, is_so in SHARES:
                 wanted = [row for row in of_all if not row["closed"] and is_so(used(row))]
                 assert rows(it, text)["rows"] == wanted, (table, text)
-
-
-def test_usual_order(tmp_path: Path) -> None:
-    """Until a planner chooses an order, the most used come first as long as losses are not known;
-    then what is worst to lose, by all sets of places; and after a change what was changed. Of many
-    arcs the file's order stays."""
-    with board(PIPES) as it:
-        told = rows(it, sort="usual")
-        shares = [used(row) for row in told["rows"]]
-        assert (told["sort"], shares) == ("-use", sorted(shares, reverse=True))
-        while it.told("worth")["is_finding"]:
-            time.sleep(0.02)
-        told = rows(it, sort="usual")
-        lost = {pipe.name: 165 - swept()[pipe.name][0] for pipe in water()}
-        assert names(told) == sorted(lost, key=lambda name: -lost[name])
-        assert told["sort"] == "-lost"
-        it.do(what="cap", arc=12, capacity="+5")
-        told = rows(it, sort="usual")
-        assert (told["sort"], [row["number"] for row in told["rows"]][:2]) == ("change", [12, 1])
-        assert it.ask(it.root + "numbers?filter=&sort=usual&first=0&count=5")[0] == 400
-    table = tmp_path / "many.csv"
-    table.write_text("from,to,litres,pipe\n" + "A,B,1,one\n" * MOST_SORTED + "A,B,9,last\n")
-    with board(str(table)) as it:
-        it.do(what="cap", arc=MOST_SORTED, capacity="2")
-        told = rows(it, sort="usual", count=5)
-        assert told["sort"] == ""
-        assert [row["number"] for row in told["rows"]] == [1, 2, 3, 4, 5]
 
 
 def test_since_the_beginning() -> None:

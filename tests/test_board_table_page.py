@@ -8,7 +8,7 @@ from typing import Any
 import pytest
 from board_pages import Page
 from board_running import board
-from desk_shared import PIPES, swept, water, without
+from desk_shared import PIPES, water, without
 from test_board_table import changed
 
 pytestmark = pytest.mark.seconds(20)
@@ -55,75 +55,15 @@ def click_row(page: Page, name: str, *keys: str) -> None:
     actions.perform()
 
 
-def open_table(page: Page) -> list[str]:
-    """Opens the table once it is known what is lost without each arc, and returns its names in
-    their order."""
-    page.know_worth()
-    page.click("#tab-all")
-    page.settle()
-    return grid(page)
-
-
-def sorted_by(page: Page) -> list[str]:
-    """The titles of the columns that the table is sorted by."""
-    script = (
-        "return [...document.querySelectorAll('#grid th[aria-sort]')].filter((it) => "
-        "it.ariaSort !== 'none').map((it) => it.className)"
-    )
-    return list(page.driver.execute_script(script))
-
-
-def test_order(driver: Any) -> None:
-    """Until a column is chosen, the table has first what was changed or, if nothing was, what is
-    worst to lose, by all sets of places. A column that was chosen stays."""
-    lost = {pipe.name: 165 - swept()[pipe.name][0] for pipe in water()}
-    with board(PIPES) as it:
-        page = Page(driver, it.address)
-        order = open_table(page)
-        assert order == sorted(lost, key=lambda name: -lost[name])
-        assert sorted_by(page) == ["lost"]
-        it.do(what="cap", arc=12, capacity="+5")
-        it.do(what="close", arc=9)
-        page.wait(lambda: sorted_by(page) == ["change"])
-        names = [pipe.name for pipe in water()]
-        changed_names = [names[8], names[11]]
-        assert grid(page) == changed_names + [it for it in names if it not in changed_names]
-        page.click("#grid th.name button")
-        page.wait(lambda: grid(page) == sorted(names, key=str.casefold))
-        it.do(what="open", arc=9)
-        page.settle()
-        assert sorted_by(page) == ["name"]
-        # After both ways of a column it is the usual order again.
-        page.click("#grid th.name button")
-        page.wait(lambda: grid(page) == sorted(names, key=str.casefold, reverse=True))
-        page.click("#grid th.name button")
-        page.wait(lambda: sorted_by(page) == ["change"])
-        driver.get("about:blank")
-
-
-def test_order_stays(driver: Any) -> None:
-    """While the pointer is in the table, it stays sorted by the same column."""
-    with board(PIPES) as it:
-        page = Page(driver, it.address)
-        open_table(page)
-        page.actions().move_to_element(page.find("#row-3 .name")).perform()
-        it.do(what="close", arc=9)
-        page.wait(lambda: page.value() == without("Mill Lane"))
-        page.know_worth()
-        assert sorted_by(page) == ["lost"]
-        page.actions().move_to_element(page.find("#value")).perform()
-        it.do(what="cap", arc=12, capacity="+5")
-        page.wait(lambda: sorted_by(page) == ["change"])
-        driver.get("about:blank")
-
-
 def test_help(driver: Any) -> None:
     """What can be typed into the filter is shown while the field has the focus, or after a button
     asked for it, also by keys. A click on a row meets that row, though this hides the text."""
     tab = "\ue004"
     with board(PIPES) as it:
         page = Page(driver, it.address)
-        order = open_table(page)
+        order = [pipe.name for pipe in water()]
+        page.click("#tab-all")
+        page.settle()
         forms = page.find("#filter-forms")
         expanded = page.by_role("button", "What can be typed").get_attribute
         assert not forms.is_displayed() and expanded("aria-expanded") == "false"
@@ -148,8 +88,8 @@ def test_choice(driver: Any) -> None:
     changed in one step."""
     with board(PIPES) as it:
         page = Page(driver, it.address)
-        order = open_table(page)
-        assert sorted(order) == sorted(pipe.name for pipe in water())
+        order = [pipe.name for pipe in water()]
+        assert grid(page) == order
         click_row(page, order[2])
         page.wait(lambda: page.text("#what h3") == order[2])
         click_row(page, order[5], SHIFT)
@@ -167,7 +107,7 @@ def test_choice(driver: Any) -> None:
         page.wait(lambda: not chosen(page) and not page.text("#many"))
         page.write("#filter", "capacity < 60")
         small = [pipe.name for pipe in water() if pipe.capacity < 60]
-        page.wait(lambda: sorted(grid(page)) == sorted(small))
+        page.wait(lambda: grid(page) == small)
         page.press("Choose all of these")
         page.wait(lambda: page.text("#many-told").startswith(f"{len(small)} chosen"))
         page.write("#many-capacity", "+10")
@@ -185,7 +125,7 @@ def test_press(driver: Any) -> None:
     which flows of that row changed."""
     with board(PIPES) as it:
         page = Page(driver, it.address)
-        order = open_table(page)
+        order = [pipe.name for pipe in water()]
         before = page.text("#row-0 .flow")
         row = page.find("#row-0 .name")
         page.actions().move_to_element(row).click_and_hold().perform()
@@ -210,7 +150,7 @@ def test_a_late_choice(driver: Any) -> None:
     chosen, and the page says so."""
     with board(PIPES) as it:
         page = Page(driver, it.address)
-        order = open_table(page)
+        order = [pipe.name for pipe in water()]
         click_row(page, order[2])
         page.wait(lambda: chosen(page) == order[2:3])
         driver.execute_script(LATER)
@@ -223,7 +163,7 @@ def test_keys(driver: Any) -> None:
     """The keyboard alone moves in the table, chooses, and shows an arc; the focus stays in it."""
     with board(PIPES) as it:
         page = Page(driver, it.address)
-        order = open_table(page)
+        order = [pipe.name for pipe in water()]
         table = page.find("#grid")
         table.send_keys(DOWN, " ")
         page.wait(lambda: chosen(page) == order[1:2])

@@ -196,13 +196,13 @@ def test_page(driver: Any) -> None:
         driver.execute_script("document.querySelector('#worst-table tbody button').click()")
         page.wait(lambda: wanted[0] in page.text("#what h3"))
         page.wait(lambda: page.fact("Closing this") == told_loss(165, left[wanted[0]]))
-        page.click("#tab-all")
+        page.press("All")
         cells = (
             "return [...document.querySelectorAll('#grid tbody td.lost')].map(it => it.textContent)"
         )
         page.wait(
             lambda: driver.execute_script(cells)
-            == [str(165 - least) if least < 165 else "" for least in sorted(left.values())]
+            == [str(165 - left[name]) if left[name] < 165 else "" for name in NAMES]
         )
         it.do(what="close", arc=NAMES.index("Bridge pipe") + 1)
         page.wait(lambda: page.value() == 155)

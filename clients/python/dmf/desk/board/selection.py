@@ -18,9 +18,6 @@ from .responses import Json, WrongForm
 from .views import arc_views, with_worth
 
 MOST_ROWS, MOST_FOUND = 500, 20
-# The order of the table until a planner chooses one; and the most arcs that are sorted then, which
-# takes some hundredths of a second.
-USUAL, MOST_SORTED = "usual", 20_000
 _DIGITS = re.compile("([0-9]+)")
 
 
@@ -47,12 +44,9 @@ class ArcList:
 
     def view(self, text: str, order: str, first: int, count: int) -> Json:
         """Return `count` rows of the table from the one at `first` on, the number of all rows, and
-        how the filter is understood, or why it has no meaning; and the order, if it is the usual
-        one, as a column."""
+        how the filter is understood, or why it has no meaning."""
         if count > MOST_ROWS:
             raise WrongForm(f"expected at most {MOST_ROWS} rows")
-        if order == USUAL:
-            order = self._usual_order()
         try:
             reading, numbers, fault = (
                 " and ".join(self._filters.read(text)[1]),
@@ -72,18 +66,7 @@ class ArcList:
             "rows": rows,
             "reading": reading,
             "fault": fault,
-            "sort": order,
         }
-
-    def _usual_order(self) -> str:
-        """Return the order that puts first what was changed or, if nothing was, what is worst to
-        lose, or the most used as long as losses are not known. Many arcs stay as in the file."""
-        network = self._desk.network
-        if len(network.lines) > MOST_SORTED:
-            return ""
-        if network.changed():
-            return "change"
-        return "-lost" if Part.ARC in self._desk.state.answers.worth else "-use"
 
     def numbers(self, text: str, order: str) -> list[int]:
         """Return all arcs that a filter shows, in an order: that of the file, or by a column, `-`

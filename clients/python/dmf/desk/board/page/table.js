@@ -1,7 +1,7 @@
 /**
  * The table of all arcs. It has the visible rows, and requests others while it is scrolled.
  * @typedef {import("./rows.js").Arc} Arc
- * @typedef {{ total: number, first: number, rows: Arc[], reading: string, fault: string, sort: string }} Part
+ * @typedef {{ total: number, first: number, rows: Arc[], reading: string, fault: string }} Part
  */
 import { choose, theChoice } from "./choice.js";
 import { at, make, onClick, replace } from "./elements.js";
@@ -16,35 +16,26 @@ import { sentence, upper } from "./words.js";
 /** The rows in one request; and the rows by which Page Up and Page Down move. */
 const AT_ONCE = 36, PAGE = 10;
 /** @type {Part} */
-let part = { total: 0, first: 0, rows: [], reading: "", fault: "", sort: "" };
+let part = { total: 0, first: 0, rows: [], reading: "", fault: "" };
 /**
  * The rows in the page, by their places and their arcs' numbers.
  * @type {Map<string, HTMLTableRowElement>}
  */
 let shown = new Map();
-let asked = 0, current = 0, anchor = 0, isAsking = false, isLate = false;
-/** The order that a click on a column's title chose, and the one that the board chooses before. */
-let order = "";
-const USUAL = "usual";
+let order = "", asked = 0, current = 0, anchor = 0, isAsking = false, isLate = false;
 /** The length of the longest amount so far, which sets the width of the columns. */
 let signs = 0;
 
 /**
- * Returns the order after a click on a column's title: of numbers the largest come first. After both ways it is the usual one again.
+ * Returns the order after a click on a column's title: of numbers the largest come first.
  * @param {string} column
  */
 function nextOrder(column) {
   const orders = [...NUMBERS.includes(column) ? [`-${column}`, column] : [column, `-${column}`], ""];
-  return orders[(orders.indexOf(part.sort) + 1) % orders.length];
+  return orders[(orders.indexOf(order) + 1) % orders.length];
 }
 
-/** Returns the order to ask for. Until one is chosen, it changes only while the table is visible, without the pointer and the focus. */
-function sorting() {
-  const box = at("rows"), isHeld = part.sort && (box.matches(":hover") || box.contains(document.activeElement));
-  return order || (at("part-all").hidden || isHeld ? part.sort : USUAL);
-}
-
-const words = (sort = part.sort) => `filter=${encodeURIComponent(filterWords())}&sort=${sort}`;
+const words = () => `filter=${encodeURIComponent(filterWords())}&sort=${order}`;
 /** The filter whose rows are shown. */
 let filtered = "";
 
@@ -60,24 +51,18 @@ async function numbers(first, count) {
   return told ? told.numbers : null;
 }
 
-/**
- * Updates the visible rows after a change of the state, the filter or the order.
- * @param {string} sort
- */
-async function showSorted(sort) {
+/** Updates the visible rows after a change of the state, the filter or the order. */
+export async function showTable() {
   const turn = (asked += 1);
   const above = Math.floor(at("rows").scrollTop / HEIGHT) - AT_ONCE / 3, first = Math.max(0, Math.min(above, part.total - AT_ONCE));
-  const told = await ask(`rows?${words(sort)}&first=${first}&count=${AT_ONCE}`);
+  const told = await ask(`rows?${words()}&first=${first}&count=${AT_ONCE}`);
   if (turn !== asked || !told) return;
-  if (told.sort !== part.sort) at("rows").scrollTop = 0;
   part = told;
   at("filter-told").textContent = reading();
   at("filter").setAttribute("aria-invalid", String(Boolean(part.fault)));
   current = Math.min(current, Math.max(0, part.total - 1));
   draw();
 }
-
-export const showTable = () => showSorted(sorting());
 
 /** Returns how the filter is understood, and how many rows match. */
 function reading() {
@@ -104,9 +89,9 @@ function draw() {
     sort.addEventListener("click", () => {
       order = nextOrder(column);
       at("rows").scrollTop = 0;
-      showSorted(order || USUAL);
+      showTable();
     });
-    const way = part.sort === column ? "ascending" : part.sort === `-${column}` ? "descending" : "none";
+    const way = order === column ? "ascending" : order === `-${column}` ? "descending" : "none";
     return make("th", sort, { scope: "col", class: column, "aria-sort": way });
   });
   const grid = /** @type {HTMLTableElement} */ (at("grid"));
@@ -154,7 +139,7 @@ async function go(place) {
 /** Marks the rows and, if the table is visible, updates them. */
 export async function showRows() {
   point();
-  if (!at("part-all").hidden) await (order ? scrolled() : showTable());
+  if (!at("part-all").hidden) await scrolled();
 }
 
 /** Goes to the row of the selected arc, if it was selected elsewhere while the table is visible, and it matches the filter. */
