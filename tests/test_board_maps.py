@@ -19,7 +19,8 @@ pytestmark = pytest.mark.seconds(20)
 OVER = """
 const parts = [...document.querySelectorAll("#picture .node, #picture .arc")];
 const boxes = parts.filter((part) => !part.matches(".unlabelled")).map((part) => {
-  const all = [...part.querySelectorAll("text")].map((text) => text.getBoundingClientRect());
+  const seen = [...part.querySelectorAll("text")].filter((text) => text.checkVisibility());
+  const all = seen.map((text) => text.getBoundingClientRect());
   const [left, top] = [Math.min(...all.map((it) => it.left)), Math.min(...all.map((it) => it.top))];
   const right = Math.max(...all.map((it) => it.right));
   const bottom = Math.max(...all.map((it) => it.bottom));
