@@ -8,7 +8,6 @@ use crate::word::Word;
 use dmf_solver::{Turn, Watch};
 use dmf_state::State;
 use dmf_text::{Failed, Sink, Source};
-use dmf_vital::ValuingWatch;
 use std::cell::Cell;
 use std::fs;
 use std::io::IsTerminal;
@@ -27,7 +26,7 @@ const CALLS: u64 = 64;
 /// The path of the file on standard input.
 const INPUT: &str = "/proc/self/fd/0";
 
-/// The line on standard error. It says how far a task is: reading a text, solving, draining, valuing, or writing an answer.
+/// The line on standard error. It says how far a task is: reading a text, solving, draining, or writing an answer.
 #[derive(Drop)]
 pub struct Progress<'a> {
     rt: &'a HostRuntime,
@@ -207,7 +206,7 @@ impl<S: Source> Source for WatchedSource<'_, S> {
     }
 }
 
-/// A watch that reports how far a solve or a drain is, or how many parts are valued.
+/// A watch that reports how far a solve or a drain is.
 #[derive(Drop)]
 pub struct WatchedSolve<'a> {
     progress: &'a Progress<'a>,
@@ -221,8 +220,6 @@ pub struct WatchedSolve<'a> {
     place: usize,
     /// How much flow the drain has taken off.
     taken: u64,
-    /// How many times a call that values parts has asked whether it may go on.
-    asked: u64,
 }
 
 impl<'a> WatchedSolve<'a> {
@@ -236,7 +233,6 @@ impl<'a> WatchedSolve<'a> {
             links: 0,
             place: 0,
             taken: 0,
-            asked: 0,
         }
     }
 }
@@ -279,17 +275,6 @@ impl Watch for WatchedSolve<'_> {
                 taken: self.taken,
             });
         }
-    }
-}
-
-impl ValuingWatch for WatchedSolve<'_> {
-    fn valued(&mut self, done: usize, count: usize) -> bool {
-        self.progress.begin();
-        self.asked = self.asked.saturating_add(1);
-        if self.asked % CALLS == 1 && self.progress.is_due() {
-            self.progress.tell(Word::Valuing { done, count });
-        }
-        true
     }
 }
 

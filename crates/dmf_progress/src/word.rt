@@ -24,11 +24,6 @@ pub enum Word {
         count: usize,
         taken: u64,
     },
-    /// So many of how many parts are valued.
-    Valuing {
-        done: usize,
-        count: usize,
-    },
     /// So many bytes are written.
     Writing {
         bytes: u64,
@@ -75,7 +70,6 @@ impl fmt::Display for Word {
                 f,
                 "dmf: draining, arc {place} of {count}, {taken} taken off"
             ),
-            Word::Valuing { done, count } => write!(f, "dmf: valuing, {done} of {count}"),
             Word::Writing { bytes } => {
                 let written = bytes / MEGABYTE;
                 write!(f, "dmf: writing, {written} MB")

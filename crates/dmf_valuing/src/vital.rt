@@ -15,15 +15,14 @@ use dmf_solver::Watch;
 use dmf_solving::solve_any;
 use dmf_streams::{EngineFault, Status, flush, read_state};
 use dmf_text::{Sink, Source};
-use dmf_vital::ValuingWatch;
 use std::alloc::Global;
 
 /// Reads a problem, and finds its greatest value and what is left of it without each arc. Writes the value as `c value V`, then for each
 /// arc in order, idle ones too, `v J WITHOUT`, and flushes. WITHOUT is the value of a greatest flow of the network in which arc number J
-/// is closed. Reports to the watch what [`solve_from`](dmf_solving::solve_from) reports, and then how many arcs are valued.
+/// is closed. Reports to the watch what [`solve_from`](dmf_solving::solve_from) reports.
 ///
-/// Fails as [`run_solve`](dmf_solving::run_solve) does, and as if memory were refused if the watch ends it.
-pub fn run_vital<P: Source, W: Sink, V: Watch + ValuingWatch>(
+/// Fails as [`run_solve`](dmf_solving::run_solve) does.
+pub fn run_vital<P: Source, W: Sink, V: Watch>(
     alloc: Global,
     problem: &mut P,
     out: &mut W,
@@ -41,7 +40,7 @@ pub fn run_vital<P: Source, W: Sink, V: Watch + ValuingWatch>(
 ///
 /// Fails with [`EngineFault::NoRoom`], too, before it writes anything, if the network cannot take the second arcs: only if four more arcs of
 /// the capacity of each arc pass the limits of a network.
-pub fn run_vital_second<P: Source, W: Sink, V: Watch + ValuingWatch>(
+pub fn run_vital_second<P: Source, W: Sink, V: Watch>(
     alloc: Global,
     problem: &mut P,
     out: &mut W,
@@ -56,7 +55,7 @@ pub fn run_vital_second<P: Source, W: Sink, V: Watch + ValuingWatch>(
 
 /// Does what [`run_vital`] does, for each node but the source and the sink in place of each arc. WITHOUT is the value of a greatest flow of
 /// the network in which each arc at node J is closed.
-pub fn run_vital_nodes<P: Source, W: Sink, V: Watch + ValuingWatch>(
+pub fn run_vital_nodes<P: Source, W: Sink, V: Watch>(
     alloc: Global,
     problem: &mut P,
     out: &mut W,
@@ -71,7 +70,7 @@ pub fn run_vital_nodes<P: Source, W: Sink, V: Watch + ValuingWatch>(
 
 /// Does what [`run_vital`] does, but lists only the `most` arcs that cost most to lose: the greatest loss first and, of equal ones, the
 /// smaller number first.
-pub fn run_vital_worst<P: Source, W: Sink, V: Watch + ValuingWatch>(
+pub fn run_vital_worst<P: Source, W: Sink, V: Watch>(
     alloc: Global,
     most: u32,
     problem: &mut P,
@@ -86,7 +85,7 @@ pub fn run_vital_worst<P: Source, W: Sink, V: Watch + ValuingWatch>(
 }
 
 /// Does what [`run_vital_worst`] does, for nodes, as [`run_vital_nodes`] values them.
-pub fn run_vital_worst_nodes<P: Source, W: Sink, V: Watch + ValuingWatch>(
+pub fn run_vital_worst_nodes<P: Source, W: Sink, V: Watch>(
     alloc: Global,
     most: u32,
     problem: &mut P,
@@ -103,7 +102,7 @@ pub fn run_vital_worst_nodes<P: Source, W: Sink, V: Watch + ValuingWatch>(
 /// Does what [`run_vital_worst`] does, for pairs of arcs: `v I J WITHOUT`, where I is the smaller number. Of equal losses that of the smaller
 /// I comes first, and of equal I that of the smaller J. WITHOUT is the value of a greatest flow of the network in which both arcs are
 /// closed.
-pub fn run_vital_worst_pairs<P: Source, W: Sink, V: Watch + ValuingWatch>(
+pub fn run_vital_worst_pairs<P: Source, W: Sink, V: Watch>(
     alloc: Global,
     most: u32,
     problem: &mut P,
@@ -119,7 +118,7 @@ pub fn run_vital_worst_pairs<P: Source, W: Sink, V: Watch + ValuingWatch>(
 
 /// Reads a problem, and writes its greatest value and the rows of these parts.
 #[inline(never)]
-fn run_valuing<P: Source, W: Sink, V: Watch + ValuingWatch>(
+fn run_valuing<P: Source, W: Sink, V: Watch>(
     alloc: Global,
     parts: Parts,
     problem: &mut P,
@@ -130,7 +129,7 @@ fn run_valuing<P: Source, W: Sink, V: Watch + ValuingWatch>(
 {
     let state = read_state(alloc, problem)?;
     let solved = solve_any(alloc, state, false, watch)?;
-    let rows = find_rows(alloc, parts, &solved.state, watch)?;
+    let rows = find_rows(alloc, parts, &solved.state)?;
     write_vital(solved.state.value(), &rows, out)?;
     flush(out)?;
     Ok(Status::Well)

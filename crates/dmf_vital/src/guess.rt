@@ -4,20 +4,18 @@ ghost use Rattle.dmf_solver.specs.Greatest.{IsGreatest};
 ghost use Rattle.dmf_vital.specs.Rest.{AreThere, IsRest, IsWhole};
 
 use crate::rest::{Rest, Whole, largest_with, leave_out, loss_with};
-use crate::watch::{ValuingWatch, report};
 use crate::worst::{NumberedLoss, is_among};
 use dmf_state::{NoMemory, State};
 use std::alloc::{AllocError, Global};
 
 /// Guesses a loss that so many pairs reach: those of these arcs with any other among some. No contract says that they do.
-pub fn guess_least<W: ValuingWatch>(
+pub fn guess_least(
     alloc: Global,
     state: &State,
     whole: &mut Whole,
     tried: &[NumberedLoss],
     among: &[bool],
     most: usize,
-    watch: &mut W,
 ) -> Result<u64, NoMemory>
     requires tried { AreThere state.now.network tried.now }
     requires greatest { IsGreatest state.now.network state.now.flows }
@@ -29,7 +27,7 @@ pub fn guess_least<W: ValuingWatch>(
     for k in 0..tried.len() {
         let mut rest = leave_out(alloc, state, whole, tried[k].number)?;
         leave(&mut left, tried[k].number);
-        note_losses(state, &mut rest, &left, most, &mut greatest, watch)?;
+        note_losses(state, &mut rest, &left, most, &mut greatest)?;
     }
     if most == 0 || greatest.len() < most {
         return Ok(0);
@@ -46,19 +44,17 @@ pub fn leave(among: &mut Vec<bool>, j: u32) {
 }
 
 /// Adds the losses of pairs of the closed arc and one among these to the `most` greatest.
-fn note_losses<W: ValuingWatch>(
+fn note_losses(
     state: &State,
     rest: &mut Rest,
     among: &[bool],
     most: usize,
     greatest: &mut Vec<u64>,
-    watch: &mut W,
 ) -> Result<(), NoMemory>
     requires greatest { IsGreatest state.now.network state.now.flows }
     requires rest { IsRest state.now.network rest.old }
 {
     for k in 0..state.arcs().len() {
-        report(watch, k, state.arcs().len())?;
         note_second(state, rest, among, most, greatest, k as u32 + 1)?;
     }
     Ok(())

@@ -10,10 +10,10 @@ pub returns-in_ok-losses_of_nodes-in-Nodes : goal.returns-in_ok-losses_of_nodes-
 returns-in_ok-losses_of_nodes-in-Nodes c = rw c.in-Nodes.is c.in_ok-losses_of_nodes-in-Nodes.ensures
 
 pub returns-in-WorstArcs : goal.returns-in-WorstArcs
-returns-in-WorstArcs c = rw c.in-WorstArcs.is c.worst_arcs_watched.ensures
+returns-in-WorstArcs c = rw c.in-WorstArcs.is c.worst_arcs.ensures
 
 pub returns-in-WorstNodes : goal.returns-in-WorstNodes
-returns-in-WorstNodes c = rw c.in-WorstNodes.is c.worst_nodes_watched.ensures
+returns-in-WorstNodes c = rw c.in-WorstNodes.is c.worst_nodes.ensures
 
 pub returns-in-WorstPairs : goal.returns-in-WorstPairs
-returns-in-WorstPairs c = rw c.in-WorstPairs.is c.worst_pairs_watched.ensures
+returns-in-WorstPairs c = rw c.in-WorstPairs.is c.worst_pairs.ensures
