@@ -2,6 +2,7 @@
 
 from __future__ import annotations
 
+import os
 import subprocess
 from collections.abc import Sequence
 from decimal import Decimal
@@ -40,12 +41,21 @@ def greatest(arcs: Arcs) -> Decimal:
 def at_a_terminal(
     words: list[str], answers: list[bytes], prompts: Sequence[str] = ("Number or title: ", "> ")
 ) -> tuple[int, str]:
-    """What a tool ends with and tells, where each line is typed when the tool waits for one."""
+    """What a tool ends with and tells, where each line is typed when the tool waits for one. The
+    terminal is one that only writes, so that a prompt is plain text."""
     with Terminal() as terminal:
         running = subprocess.Popen(
-            words, stdin=terminal.end, stdout=terminal.end, stderr=terminal.end
+            words,
+            stdin=terminal.end,
+            stdout=terminal.end,
+            stderr=terminal.end,
+            env={**os.environ, "TERM": "dumb"},
         )
-        for prompt, answer in zip(prompts, answers):
-            assert terminal.wait_for(lambda told: prompt in told), terminal.told()
-            terminal.type(answer)
-        return running.wait(timeout=SECONDS), terminal.close()
+        try:
+            for prompt, answer in zip(prompts, answers):
+                assert terminal.wait_for(lambda told: prompt in told), terminal.told()
+                terminal.type(answer)
+            return running.wait(timeout=SECONDS), terminal.close()
+        finally:
+            # Otherwise the terminal would be read for as long as the tool has it open.
+            running.kill()

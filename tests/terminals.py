@@ -128,9 +128,13 @@ def typed(words: Sequence[str], lines: Sequence[bytes], pause: float = PAUSE) ->
         running = subprocess.Popen(
             [BUILT, *words], stdin=terminal.end, stdout=terminal.end, stderr=terminal.end
         )
-        for line in lines:
-            terminal.wait_until_taken(running.pid)
-            time.sleep(pause)
-            terminal.type(line)
-        terminal.type(b"\x04")
-        return running.wait(timeout=SECONDS), terminal.close()
+        try:
+            for line in lines:
+                terminal.wait_until_taken(running.pid)
+                time.sleep(pause)
+                terminal.type(line)
+            terminal.type(b"\x04")
+            return running.wait(timeout=SECONDS), terminal.close()
+        finally:
+            # Otherwise the terminal would be read for as long as the program has it open.
+            running.kill()
