@@ -58,9 +58,10 @@ pub record HoldsExits (n : Network) (flows : List ℕ) (e : Exits) (has : ℕ �
       → ((i : ℕ) → has_arc n i ≡ true → is_exit n e i ≡ true → (step.rank ≢ 2 * i) × (step.rank ≢ 2 * i + 1))
       → has step.from ≡ true → has step.to ≡ true
 
--- The flow is greatest, and its chains are those of the network.
+-- The flow is greatest, as the state's own is, and its chains are those of the network.
 pub record IsReady (s : NetworkState) (r : Rerouting) : Type 0 where
   pub network : IsNetwork s.network
+  pub own : IsGreatest s.network s.flows
   pub greatest : IsGreatest s.network r.flows.items
   pub along : AreChains false s.network.nodes s.network.arcs r.along.last.items r.along.before.items
   pub against : AreChains true s.network.nodes s.network.arcs r.against.last.items r.against.before.items

@@ -231,7 +231,8 @@ pub fn loss_at(
     loss_of_node(state, ranks, rerouting, v)
 }
 
-/// Moves the flow on the exits to other ways until none is left or no path is. Returns what is left.
+/// Moves the flow on the exits to other ways until none is left or no path is. Returns what is left; 0 without a search if the state's own flow
+/// leaves the exits empty.
 fn left_on(state: &State, rerouting: &mut Rerouting, exits: Exits) -> Result<u64, AllocError>
     requires exits { AreExits state.now.network exits }
     requires ready { IsReady state.now rerouting.old }
@@ -240,6 +241,9 @@ fn left_on(state: &State, rerouting: &mut Rerouting, exits: Exits) -> Result<u64
     ensures ready { IsReady state.now rerouting.new }
     ensures ranks { AreRanks state.now.network rerouting.new.flows.items exits.entry.ranks.now }
 {
+    if flow_on_exits(state, &rerouting.along, exits, state.flows()) == 0 {
+        return Ok(0);
+    }
     let mut left = flow_on_exits(state, &rerouting.along, exits, &rerouting.flows);
     while left > 0 {
         let moved = move_off(state, rerouting, exits)?;

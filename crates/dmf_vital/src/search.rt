@@ -136,6 +136,8 @@ pub struct Front {
     pub next: usize,
     /// The steps that are left of the node before it.
     pub left: Cursor,
+    /// How many steps were looked at.
+    pub looks: u64,
 }
 
 /// What came of the turns of both ends.
@@ -150,7 +152,7 @@ pub struct Meeting {
 /// How many steps an end looks at in one turn. A node may have thousands.
 const TURN: u32 = 16;
 
-/// Searches from both ends in turn, a few steps at a time, until they meet or one of them has no steps left.
+/// Searches from both ends, a few steps at a time from the one that has looked at fewer, until they meet or one of them has no steps left.
 fn meet(
     steps: &Steps,
     along: &Chains,
@@ -167,6 +169,7 @@ fn meet(
     let mut now = Front {
         next: 0,
         left: no_steps(),
+        looks: 0,
     };
     let mut other = now;
     for _ in 0..u64::MAX {
@@ -180,10 +183,12 @@ fn meet(
         if is_done(now, tree) {
             return Ok(Meeting { hop, back });
         }
-        let next = other;
-        other = now;
-        now = next;
-        back = !back;
+        if now.looks > other.looks {
+            let next = other;
+            other = now;
+            now = next;
+            back = !back;
+        }
     }
     Ok(Meeting {
         hop: no_hop(),
@@ -216,6 +221,7 @@ fn take_turn(
         begin_next(along, against, back, front, tree);
     }
     for _ in 0..TURN {
+        front.looks = front.looks.wrapping_add(1);
         let hop = next_hop(&mut front.left, along, against);
         if hop.arc == 0 {
             return Ok(hop);

@@ -71,6 +71,7 @@ returns-clause-ready c =
     let at = (goal.at.returns-clause-ready c).After-push in
     record {
       network = c.requires.ready.network;
+      own = c.requires.ready.own;
       greatest = subst (IsGreatest n) (sym (lent at)) c.push.ensures.greatest;
       along = c.requires.ready.along;
       against = c.requires.ready.against;
