@@ -48,8 +48,8 @@ Generate = Callable[[str, int], bytes]
 # Longer than reading is silent after its first report, in seconds.
 PAUSE = 0.4
 CHAIN = b"p max 3 2\nn 1 s\nn 3 t\na 1 2 7\na 2 3 4\n"
-# Combs of so many arcs take the engine some 8 s of processor time, and the signal comes once it has
-# had so much after the text was read.
+# A comb of this many arcs keeps the engine busy for some 8 s of processor time. The signal comes
+# after this many of them.
 COMBED, WORKED = 60_000, 0.3
 
 

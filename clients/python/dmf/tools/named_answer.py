@@ -1,4 +1,4 @@
-"""Show an answer of dmf, line by line as it comes, with the names and numbers of a table."""
+"""Print the output of dmf as it arrives, with the names and numbers of a table."""
 
 from __future__ import annotations
 
