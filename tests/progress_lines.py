@@ -8,7 +8,8 @@ from itertools import pairwise
 ERASED = "\r\x1b[K"
 WORD = re.compile(
     r"dmf: (?:(reading|writing), \d+ MB(?: of \d+ MB)?"
-    r"|(solving), value (\d+)(?: of at most \d+)?, phase (\d+), (\d+) paths)"
+    r"|(solving), value (\d+)(?: of at most \d+)?, phase (\d+), (\d+) paths"
+    r"|(valuing), \d+ of \d+)"
 )
 
 
@@ -23,7 +24,7 @@ def words_of(told: str) -> list[re.Match[str]]:
 
 def tasks(words: list[re.Match[str]]) -> list[str]:
     """What lines of progress are about, in their order, each once."""
-    return [*dict.fromkeys(word[1] or word[2] for word in words)]
+    return [*dict.fromkeys(word[1] or word[2] or word[6] for word in words)]
 
 
 def tasks_of(told: str) -> list[str]:
@@ -42,7 +43,7 @@ def solves_of(told: str) -> list[list[tuple[int, int, int]]]:
     before had."""
     solves: list[list[tuple[int, int, int]]] = []
     for word in words_of(told):
-        value, phase, paths = map(int, word.groups()[2:])
+        value, phase, paths = map(int, word.groups()[2:5])
         if not solves or paths < solves[-1][-1][2]:
             solves.append([])
         solves[-1].append((value, phase, paths))

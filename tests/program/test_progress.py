@@ -251,6 +251,33 @@ def test_asked_vital(small: Path) -> None:
     assert (nodes.returncode, lines_of(nodes.stderr)) == (0, ["reading"])
 
 
+@pytest.mark.seconds(9)
+@pytest.mark.parametrize("option", [[], ["--nodes"]])
+def test_asked_valuing(option: list[str]) -> None:
+    """While a run values arcs or nodes, it shows how many of them it has gone through, here for one
+    or two seconds. All are those of the problem: its lines of arcs, or each node that they name."""
+    problem = problem_of(64, 30, 3, 100, 1990).encode()
+    arcs = [line for line in problem.splitlines() if line.startswith(b"a ")]
+    nodes = {node for line in arcs for node in line.split()[1:3]}
+    count = len(nodes if option else arcs)
+    asked = piped(["vital", *option, "--progress"], problem)
+    assert (asked.returncode, asked.stdout) == (0, piped(["vital", *option], problem).stdout)
+    assert "valuing" in lines_of(asked.stderr)
+    told = re.findall(rb"^dmf: valuing, (\d+) of (\d+)$", asked.stderr, re.MULTILINE)
+    done, counts = zip(*(map(int, word) for word in told))
+    assert {*counts} == {count} and len(done) > 1
+    assert [*done] == sorted({*done}) and done[-1] < count
+
+
+@pytest.mark.seconds(5)
+def test_slow_vital() -> None:
+    """On a terminal it shows so after half a second, and erases the line before the answer."""
+    problem = problem_of(64, 30, 3, 100, 1990).encode()
+    status, answer, told = with_terminal(["vital"], problem)
+    assert (status, answer) == (0, piped(["vital"], problem).stdout)
+    assert "valuing" in tasks_of(told)
+
+
 def test_asked_session(small: Path) -> None:
     asked = piped(["session", "--progress", str(small)], b"solve\n")
     assert lines_of(asked.stderr)[:2] == ["reading", "solving"]

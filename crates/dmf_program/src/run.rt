@@ -16,6 +16,7 @@ use dmf_valuing::{
     run_vital, run_vital_nodes, run_vital_second, run_vital_worst, run_vital_worst_nodes,
     run_vital_worst_pairs,
 };
+use dmf_vital::ValuingWatch;
 use std::alloc::Global;
 
 /// What a solve is to write.
@@ -34,7 +35,13 @@ pub struct SolveAnswer {
 ///
 /// Fails with the fault of the opening if the file cannot be opened. Then nothing is read and nothing is written. Else fails as the
 /// run does.
-pub fn run_program<P: Source + Drop, F: Files<P>, C: Source, W: Sink, V: SessionWatch>(
+pub fn run_program<
+    P: Source + Drop,
+    F: Files<P>,
+    C: Source,
+    W: Sink,
+    V: SessionWatch + ValuingWatch,
+>(
     alloc: Global,
     asked: &Arguments,
     files: &F,
@@ -103,7 +110,7 @@ pub fn run_solving<P: Source, W: Sink, V: Watch>(
 ///
 /// Fails as [`run_vital`] does, and with second arcs as [`run_vital_second`] does.
 #[inline(never)]
-fn run_valuing<P: Source, W: Sink, V: Watch>(
+fn run_valuing<P: Source, W: Sink, V: Watch + ValuingWatch>(
     alloc: Global,
     parts: Parts,
     problem: &mut P,

@@ -8,6 +8,7 @@ use crate::word::Word;
 use dmf_solver::{Turn, Watch};
 use dmf_state::State;
 use dmf_text::{Failed, Sink, Source};
+use dmf_vital::ValuingWatch;
 use std::cell::Cell;
 use std::fs;
 use std::io::IsTerminal;
@@ -20,13 +21,13 @@ const PATIENCE: u64 = 500;
 /// The least time between two reports, in milliseconds.
 const PAUSE: u64 = 250;
 
-/// Of so many calls, one looks at the clock.
+/// One call in this many looks at the clock.
 const CALLS: u64 = 64;
 
 /// The path of the file on standard input.
 const INPUT: &str = "/proc/self/fd/0";
 
-/// The line on standard error. It says how far a task is: reading a text, solving, draining, or writing an answer.
+/// The line on standard error. It says how far a task is: reading a text, solving, draining, valuing, or writing an answer.
 #[derive(Drop)]
 pub struct Progress<'a> {
     rt: &'a HostRuntime,
@@ -124,7 +125,7 @@ impl<'a> Progress<'a> {
     }
 }
 
-/// The time so many milliseconds from now, if the clock can be read.
+/// The time this many milliseconds from now, if the clock can be read.
 fn after(rt: &HostRuntime, wait: u64) -> Option<Instant> {
     Instant::now(rt)
         .ok()?
@@ -206,7 +207,7 @@ impl<S: Source> Source for WatchedSource<'_, S> {
     }
 }
 
-/// A watch that reports how far a solve or a drain is.
+/// A watch that reports how far a solve or a drain is, or how many parts are valued.
 #[derive(Drop)]
 pub struct WatchedSolve<'a> {
     progress: &'a Progress<'a>,
@@ -220,6 +221,8 @@ pub struct WatchedSolve<'a> {
     place: usize,
     /// How much flow the drain has taken off.
     taken: u64,
+    /// How many times a call that values parts has asked whether it may go on.
+    asked: u64,
 }
 
 impl<'a> WatchedSolve<'a> {
@@ -233,6 +236,7 @@ impl<'a> WatchedSolve<'a> {
             links: 0,
             place: 0,
             taken: 0,
+            asked: 0,
         }
     }
 }
@@ -275,6 +279,17 @@ impl Watch for WatchedSolve<'_> {
                 taken: self.taken,
             });
         }
+    }
+}
+
+impl ValuingWatch for WatchedSolve<'_> {
+    fn valued(&mut self, done: usize, count: usize) -> bool {
+        self.progress.begin();
+        self.asked = self.asked.saturating_add(1);
+        if self.asked % CALLS == 1 && self.progress.is_due() {
+            self.progress.tell(Word::Valuing { done, count });
+        }
+        true
     }
 }
 

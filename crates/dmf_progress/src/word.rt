@@ -6,7 +6,7 @@ const MEGABYTE: u64 = 1_000_000;
 /// How far a task is.
 #[derive(Clone, Copy)]
 pub enum Word {
-    /// So many bytes are read, of a text of so many, if that is known.
+    /// The bytes that are read, and those of the whole text, if that is known.
     Reading {
         bytes: u64,
         size: Option<u64>,
@@ -24,7 +24,12 @@ pub enum Word {
         count: usize,
         taken: u64,
     },
-    /// So many bytes are written.
+    /// The parts that are valued, or need not be, and all of them.
+    Valuing {
+        done: usize,
+        count: usize,
+    },
+    /// The bytes that are written.
     Writing {
         bytes: u64,
     },
@@ -70,6 +75,7 @@ impl fmt::Display for Word {
                 f,
                 "dmf: draining, arc {place} of {count}, {taken} taken off"
             ),
+            Word::Valuing { done, count } => write!(f, "dmf: valuing, {done} of {count}"),
             Word::Writing { bytes } => {
                 let written = bytes / MEGABYTE;
                 write!(f, "dmf: writing, {written} MB")

@@ -11,6 +11,6 @@ pub use dmf_runs::{
 };
 pub use dmf_solving::{run_solve_any, run_solve_brief};
 pub use dmf_valuing::{
-    run_vital, run_vital_nodes, run_vital_second, run_vital_worst, run_vital_worst_nodes,
-    run_vital_worst_pairs,
+    ValuingWatch, run_vital, run_vital_nodes, run_vital_second, run_vital_worst,
+    run_vital_worst_nodes, run_vital_worst_pairs,
 };

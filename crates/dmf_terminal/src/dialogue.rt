@@ -5,16 +5,17 @@ use dmf_runs::SessionWatch;
 use dmf_session::{Refusal, Reply};
 use dmf_solver::{Turn, Watch};
 use dmf_state::State;
+use dmf_vital::ValuingWatch;
 use std::fs;
 use std::io::IsTerminal;
 use std::rt::HostRuntime;
 use std::time::SystemTime;
 
-/// A problem of at most so many bytes is read again to explain a refusal.
+/// A problem of at most this many bytes is read again to explain a refusal.
 const MOST_READ: u64 = 67_108_864;
 
-/// A watch of a session that explains each refusal. It passes the reports of solves and drains on to another watch. If standard error
-/// is no terminal, it writes nothing.
+/// A watch of a session that explains each refusal. It passes the reports of solves, drains and valued parts on to another watch. If
+/// standard error is no terminal, it writes nothing.
 #[derive(Drop)]
 pub struct Dialogue<'a, V> {
     rt: &'a HostRuntime,
@@ -75,6 +76,12 @@ impl<V: Watch> Watch for Dialogue<'_, V> {
 
     fn lowered(&mut self, turn: Turn, amount: u64) {
         self.watch.lowered(turn, amount);
+    }
+}
+
+impl<V: ValuingWatch> ValuingWatch for Dialogue<'_, V> {
+    fn valued(&mut self, done: usize, count: usize) -> bool {
+        self.watch.valued(done, count)
     }
 }
 

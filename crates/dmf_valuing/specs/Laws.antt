@@ -22,14 +22,14 @@ SecondsHaveOneText = HaveOneText AreSecondRows
 abbrev pub NodesHaveOneText : Type 0
 NodesHaveOneText = HaveOneText AreNodeRows
 
--- rows of so many of its worst arcs,
+-- rows of its worst arcs, at most `most`,
 abbrev pub WorstArcsHaveOneText : Type 0
 WorstArcsHaveOneText = (most : ℕ) → HaveOneText (AreWorstArcRows most)
 
--- of so many of its worst nodes,
+-- of its worst nodes,
 abbrev pub WorstNodesHaveOneText : Type 0
 WorstNodesHaveOneText = (most : ℕ) → HaveOneText (AreWorstNodeRows most)
 
--- and of so many of its worst pairs of arcs
+-- and of its worst pairs of arcs
 abbrev pub WorstPairsHaveOneText : Type 0
 WorstPairsHaveOneText = (most : ℕ) → HaveOneText (AreWorstPairRows most)

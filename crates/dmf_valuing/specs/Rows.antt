@@ -57,7 +57,7 @@ pub record AreNodeRows (n : Network) (rows : List Row) : Type 0 where
 abbrev pub IsPairRow : Network → ℕ → ℕ → Row → Type 0
 IsPairRow n i j row = (without : ℕ) × IsGreatestValue (without_pair n i j) without × (row ≡ i ∷ j ∷ without ∷ [])
 
--- The rows are those of the worst of such losses, at most so many, in their order.
+-- The rows are those of the worst of such losses, at most `most`, in their order.
 pub record AreRowsOfWorst (IsSuch : NumberedLoss → Type 0) (IsRowOf : NumberedLoss → Row → Type 0) (most : ℕ) (rows : List Row) : Type 0 where
   pub worst : List NumberedLoss
   pub are_worst : AreWorst IsSuch most worst

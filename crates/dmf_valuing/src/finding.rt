@@ -12,20 +12,26 @@ use crate::parts::{Parts, find_losses};
 use crate::rows::Numbers;
 use dmf_state::{NetFault, State};
 use dmf_streams::EngineFault;
-use dmf_vital::{NumberedLoss, second_gains};
+use dmf_vital::{NumberedLoss, ValuingWatch, second_gains_watched};
 use std::alloc::{AllocError, Global};
 
-/// The rows of these parts, in order, of a state whose flow is greatest.
+/// The rows of these parts, in order, of a state whose flow is greatest. Reports to the watch how many parts are valued.
 ///
-/// Fails with [`EngineFault::NoMemory`] if memory is refused, and with [`EngineFault::NoRoom`] if the network cannot take the second arcs.
-pub fn find_rows(alloc: Global, parts: Parts, state: &State) -> Result<Vec<Numbers>, EngineFault>
+/// Fails with [`EngineFault::NoMemory`] if memory is refused or if the watch ends it, and with [`EngineFault::NoRoom`] if the network
+/// cannot take the second arcs.
+pub fn find_rows<V: ValuingWatch>(
+    alloc: Global,
+    parts: Parts,
+    state: &State,
+    watch: &mut V,
+) -> Result<Vec<Numbers>, EngineFault>
     requires { IsGreatest state.now.network state.now.flows }
     ensures rows { IfOk result (λ rows. ArePartRows parts state.now.network (map row_of rows.items)) }
     ensures refused { IfErr result (IsWant (PartsLackRoom parts state.now.network)) }
 {
-    let losses = find_losses(alloc, parts, state)?;
+    let losses = find_losses(alloc, parts, state, watch)?;
     match parts {
-        Parts::Seconds => second_rows(alloc, state, &losses),
+        Parts::Seconds => second_rows(alloc, state, &losses, watch),
         _ => Ok(loss_rows(alloc, state.value(), &losses)?),
     }
 }
@@ -64,10 +70,11 @@ fn row_of_loss(value: u64, one: NumberedLoss) -> Numbers
 }
 
 /// A row for each arc: its number, what is left of the greatest value without it, and what that is with a second arc beside it.
-fn second_rows(
+fn second_rows<V: ValuingWatch>(
     alloc: Global,
     state: &State,
     losses: &[NumberedLoss],
+    watch: &mut V,
 ) -> Result<Vec<Numbers>, EngineFault>
     requires greatest { IsGreatest state.now.network state.now.flows }
     requires losses { AreLossesOf (IsArcLoss state.now.network) (range_with_len 1 (length state.now.network.arcs)) losses.now }
@@ -75,7 +82,7 @@ fn second_rows(
     ensures refused { IfErr result (IsWant (LacksRoom state.now.network)) }
 {
     let value = state.value();
-    let gains = gains_of(alloc, state)?;
+    let gains = gains_of(alloc, state, watch)?;
     let mut rows = Vec::with_capacity(alloc, losses.len())?;
     for k in 0..losses.len() {
         let Some(more) = value.checked_add(gains[k]) else {
@@ -101,14 +108,18 @@ fn second_row(value: u64, one: NumberedLoss, more: u64) -> Numbers
 }
 
 /// What the greatest value gains by a second arc beside each arc, in order.
-fn gains_of(alloc: Global, state: &State) -> Result<Vec<u64>, EngineFault>
+fn gains_of<V: ValuingWatch>(
+    alloc: Global,
+    state: &State,
+    watch: &mut V,
+) -> Result<Vec<u64>, EngineFault>
     requires { IsGreatest state.now.network state.now.flows }
     ensures one_each { IfOk result (λ gains. length gains.items ≡ length state.now.network.arcs) }
     ensures gains { IfOk result (λ gains. (k : ℕ) → k < length state.now.network.arcs
         → IsGainOfSecond state.now.network (k + 1) (slice_index gains.items k)) }
     ensures refused { IfErr result (IsWant (LacksRoom state.now.network)) }
 {
-    match second_gains(alloc, state) {
+    match second_gains_watched(alloc, state, watch) {
         Ok(gains) => Ok(gains),
         Err(NetFault::NoMemory) => Err(EngineFault::NoMemory),
         Err(_) => Err(EngineFault::NoRoom),

@@ -8,7 +8,10 @@ ghost use Rattle.dmf_valuing.specs.PartRows.{AreLossesOf, AreLossesOfParts, sing
 ghost use Rattle.dmf_valuing.specs.Rows.{inner_nodes, is_inner};
 
 use dmf_state::{NoMemory, State};
-use dmf_vital::{NumberedLoss, arc_losses, node_losses, worst_arcs, worst_nodes, worst_pairs};
+use dmf_vital::{
+    NumberedLoss, ValuingWatch, arc_losses_watched, node_losses_watched, worst_arcs_watched,
+    worst_nodes_watched, worst_pairs_watched,
+};
 use std::alloc::{AllocError, Global};
 
 /// Which parts have rows.
@@ -28,22 +31,33 @@ pub enum Parts {
     WorstPairs(u32),
 }
 
-/// What is lost without each of the parts, in the order of their rows, of a state whose flow is greatest. Fails only if memory is refused.
-pub fn find_losses(
+/// What is lost without each of the parts, in the order of their rows, of a state whose flow is greatest. Reports to the watch how many
+/// are valued. Fails only if memory is refused, or if the watch ends it.
+pub fn find_losses<V: ValuingWatch>(
     alloc: Global,
     parts: Parts,
     state: &State,
+    watch: &mut V,
 ) -> Result<Vec<NumberedLoss>, NoMemory>
     requires { IsGreatest state.now.network state.now.flows }
     ensures { IfOk result (λ losses. AreLossesOfParts parts state.now.network losses.items) }
 {
     match parts {
-        Parts::Arcs => Ok(losses_of_arcs(alloc, state, &arc_losses(alloc, state)?)?),
-        Parts::Seconds => Ok(losses_of_arcs(alloc, state, &arc_losses(alloc, state)?)?),
-        Parts::Nodes => Ok(losses_of_nodes(alloc, state, &node_losses(alloc, state)?)?),
-        Parts::WorstArcs(most) => worst_arcs(alloc, state, most as usize),
-        Parts::WorstNodes(most) => worst_nodes(alloc, state, most as usize),
-        Parts::WorstPairs(most) => worst_pairs(alloc, state, most as usize),
+        Parts::Arcs => {
+            let losses = arc_losses_watched(alloc, state, watch)?;
+            Ok(losses_of_arcs(alloc, state, &losses)?)
+        }
+        Parts::Seconds => {
+            let all = arc_losses_watched(alloc, state, watch)?;
+            Ok(losses_of_arcs(alloc, state, &all)?)
+        }
+        Parts::Nodes => {
+            let losses = node_losses_watched(alloc, state, watch)?;
+            Ok(losses_of_nodes(alloc, state, &losses)?)
+        }
+        Parts::WorstArcs(most) => worst_arcs_watched(alloc, state, most as usize, watch),
+        Parts::WorstNodes(most) => worst_nodes_watched(alloc, state, most as usize, watch),
+        Parts::WorstPairs(most) => worst_pairs_watched(alloc, state, most as usize, watch),
     }
 }
 

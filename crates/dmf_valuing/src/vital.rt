@@ -15,14 +15,15 @@ use dmf_solver::Watch;
 use dmf_solving::solve_any;
 use dmf_streams::{EngineFault, Status, flush, read_state};
 use dmf_text::{Sink, Source};
+use dmf_vital::ValuingWatch;
 use std::alloc::Global;
 
 /// Reads a problem, and finds its greatest value and what is left of it without each arc. Writes the value as `c value V`, then for each
 /// arc in order, idle ones too, `v J WITHOUT`, and flushes. WITHOUT is the value of a greatest flow of the network in which arc number J
-/// is closed. Reports to the watch what [`solve_from`](dmf_solving::solve_from) reports.
+/// is closed. Reports to the watch what [`solve_from`](dmf_solving::solve_from) reports, and then how many arcs are valued.
 ///
-/// Fails as [`run_solve`](dmf_solving::run_solve) does.
-pub fn run_vital<P: Source, W: Sink, V: Watch>(
+/// Fails as [`run_solve`](dmf_solving::run_solve) does, and as if memory were refused if the watch ends it.
+pub fn run_vital<P: Source, W: Sink, V: Watch + ValuingWatch>(
     alloc: Global,
     problem: &mut P,
     out: &mut W,
@@ -40,7 +41,7 @@ pub fn run_vital<P: Source, W: Sink, V: Watch>(
 ///
 /// Fails with [`EngineFault::NoRoom`], too, before it writes anything, if the network cannot take the second arcs: only if four more arcs of
 /// the capacity of each arc pass the limits of a network.
-pub fn run_vital_second<P: Source, W: Sink, V: Watch>(
+pub fn run_vital_second<P: Source, W: Sink, V: Watch + ValuingWatch>(
     alloc: Global,
     problem: &mut P,
     out: &mut W,
@@ -55,7 +56,7 @@ pub fn run_vital_second<P: Source, W: Sink, V: Watch>(
 
 /// Does what [`run_vital`] does, for each node but the source and the sink in place of each arc. WITHOUT is the value of a greatest flow of
 /// the network in which each arc at node J is closed.
-pub fn run_vital_nodes<P: Source, W: Sink, V: Watch>(
+pub fn run_vital_nodes<P: Source, W: Sink, V: Watch + ValuingWatch>(
     alloc: Global,
     problem: &mut P,
     out: &mut W,
@@ -70,7 +71,7 @@ pub fn run_vital_nodes<P: Source, W: Sink, V: Watch>(
 
 /// Does what [`run_vital`] does, but lists only the `most` arcs that cost most to lose: the greatest loss first and, of equal ones, the
 /// smaller number first.
-pub fn run_vital_worst<P: Source, W: Sink, V: Watch>(
+pub fn run_vital_worst<P: Source, W: Sink, V: Watch + ValuingWatch>(
     alloc: Global,
     most: u32,
     problem: &mut P,
@@ -85,7 +86,7 @@ pub fn run_vital_worst<P: Source, W: Sink, V: Watch>(
 }
 
 /// Does what [`run_vital_worst`] does, for nodes, as [`run_vital_nodes`] values them.
-pub fn run_vital_worst_nodes<P: Source, W: Sink, V: Watch>(
+pub fn run_vital_worst_nodes<P: Source, W: Sink, V: Watch + ValuingWatch>(
     alloc: Global,
     most: u32,
     problem: &mut P,
@@ -102,7 +103,7 @@ pub fn run_vital_worst_nodes<P: Source, W: Sink, V: Watch>(
 /// Does what [`run_vital_worst`] does, for pairs of arcs: `v I J WITHOUT`, where I is the smaller number. Of equal losses that of the smaller
 /// I comes first, and of equal I that of the smaller J. WITHOUT is the value of a greatest flow of the network in which both arcs are
 /// closed.
-pub fn run_vital_worst_pairs<P: Source, W: Sink, V: Watch>(
+pub fn run_vital_worst_pairs<P: Source, W: Sink, V: Watch + ValuingWatch>(
     alloc: Global,
     most: u32,
     problem: &mut P,
@@ -118,7 +119,7 @@ pub fn run_vital_worst_pairs<P: Source, W: Sink, V: Watch>(
 
 /// Reads a problem, and writes its greatest value and the rows of these parts.
 #[inline(never)]
-fn run_valuing<P: Source, W: Sink, V: Watch>(
+fn run_valuing<P: Source, W: Sink, V: Watch + ValuingWatch>(
     alloc: Global,
     parts: Parts,
     problem: &mut P,
@@ -129,7 +130,7 @@ fn run_valuing<P: Source, W: Sink, V: Watch>(
 {
     let state = read_state(alloc, problem)?;
     let solved = solve_any(alloc, state, false, watch)?;
-    let rows = find_rows(alloc, parts, &solved.state)?;
+    let rows = find_rows(alloc, parts, &solved.state, watch)?;
     write_vital(solved.state.value(), &rows, out)?;
     flush(out)?;
     Ok(Status::Well)

@@ -21,7 +21,7 @@ with_detour n v cap = with_last_arc (with_last_arc n (open_arc n.source v cap)) 
 abbrev pub with_detours : Network → Arc → Network
 with_detours n arc = with_detour (with_detour n arc.tail arc.cap) arc.head arc.cap
 
--- Network `m` has the nodes of network `n`, and so many of its arcs and others. Each set with the source and without the sink has this capacity
+-- Network `m` has the nodes of network `n`, and the first `count` of its arcs and others. Each set with the source and without the sink has this capacity
 -- more than over those arcs.
 pub record IsExtended (n m : Network) (count : ℕ) : Type 0 where
   pub nodes : m.nodes ≡ n.nodes

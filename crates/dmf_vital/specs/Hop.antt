@@ -11,7 +11,7 @@ from_of against arc = if against then arc.head else arc.tail
 abbrev pub to_of : Bool → Arc → ℕ
 to_of against arc = if against then arc.tail else arc.head
 
--- its residual capacity, if so much flows on the arc
+-- its residual capacity, over an arc with this flow
 abbrev pub room_of : Bool → Arc → ℕ → ℕ
 room_of against arc flow = if against then flow else arc.cap - flow
 

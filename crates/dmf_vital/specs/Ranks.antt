@@ -14,7 +14,7 @@ rank_of ranks v = slice_index_or ranks (v - 1) 0
 abbrev pub is_across : List ℕ → Arc → Bool
 is_across ranks arc = not (rank_of ranks arc.tail == rank_of ranks arc.head)
 
--- If a step over an arc, on which so much flows, has room, it leads to a node of no higher rank.
+-- If a step over an arc with this flow has room, it leads to a node of no higher rank.
 abbrev pub StaysLow : List ℕ → Bool → Arc → ℕ → Type 0
 StaysLow ranks against arc flow = 0 < room_of against arc flow → rank_of ranks (to_of against arc) ≤ rank_of ranks (from_of against arc)
 

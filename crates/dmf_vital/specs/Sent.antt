@@ -13,7 +13,7 @@ use Rattle.dmf_vital.specs.Hop.{from_of, room_of}
 abbrev pub nothing_carried : Carried
 nothing_carried = record { index = 0; flow = 0 }
 
--- the flows once each of so many arcs has again what it carried before, the last that was changed first
+-- the flows once the first of these arcs, as many as the number says, carry again what they carried before, the last change first
 unfoldable pub taken_back : List Carried → ℕ → List ℕ → List ℕ
 taken_back before zero flows = flows
 taken_back before (suc k) flows =

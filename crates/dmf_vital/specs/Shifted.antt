@@ -72,7 +72,7 @@ pub record IsMoved (n : Network) (e : Exits) (moved : ℕ) (before after : List 
   pub moves : exit_flow n e after + moved ≡ exit_flow n e before
   pub held : moved ≡ 0 → (has : ℕ → Bool) × HoldsExits n after e has
 
--- In some greatest flow so much is left on the exits, and none of it can go another way.
+-- In some greatest flow the exits carry `left`, and none of it can go another way.
 pub record IsLeft (n : Network) (e : Exits) (left : ℕ) : Type 0 where
   pub flows : List ℕ
   pub greatest : IsGreatest n flows

@@ -39,8 +39,8 @@ pub record AreListed (count : ℕ) (nodes : List Reached) (found : List ℕ) : T
 abbrev pub room_over : Network → List ℕ → Bool → Bool → ℕ → ℕ
 room_over n flows back against i = room_of (turned back against) (arc_number n i) (flow_on flows i)
 
--- Node `v` is where the search began: the node that the exits leave, or the head of an exit between nodes of one rank, over which so much
--- flows as the width says.
+-- Node `v` is where the search began: the node that the exits leave, or the head of an exit between nodes of one rank, over which flows
+-- what the width says.
 pub record IsBegun (n : Network) (flows : List ℕ) (e : Exits) (v : ℕ) (by : Reached) : Type 0 where
   pub ahead : by.back ≡ false → v ≡ e.node
   pub is_there : by.back ≡ true → has_arc n by.hop.arc ≡ true
@@ -50,7 +50,7 @@ pub record IsBegun (n : Network) (flows : List ℕ) (e : Exits) (v : ℕ) (by : 
   pub carries : by.back ≡ true → by.width ≤ flow_on flows by.hop.arc
 
 -- Node `v` was reached by a step with room, over an arc that is not barred, from a node that was reached before from the same end. Over
--- all steps up to it so much can be sent as its width says.
+-- all steps up to it its width can be sent.
 pub record IsReachedBy (n : Network) (flows : List ℕ) (e : Exits) (nodes : List Reached) (v : ℕ) (by : Reached) : Type 0 where
   pub is_there : has_arc n by.hop.arc ≡ true
   pub other : is_barred n e by.hop.arc ≡ false

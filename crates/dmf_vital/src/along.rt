@@ -123,7 +123,7 @@ fn send_along(
     false
 }
 
-/// Whether a step leads from this node, over an arc that is not barred, and has so much room.
+/// Whether a step leads from this node, over an arc that is not barred, and has room for this amount.
 fn goes_on(state: &State, exits: Exits, at: u32, hop: Hop, amount: u64, flows: &[u64]) -> bool
     requires { AreWithinCapacities state.now.network.arcs flows.now }
     ensures { result ≡ true → GoesOn state.now.network exits.entry at hop amount flows.now }
@@ -139,7 +139,7 @@ fn goes_on(state: &State, exits: Exits, at: u32, hop: Hop, amount: u64, flows: &
     from_of(hop.against, arc) == at && amount <= room
 }
 
-/// Gives each of so many arcs what it carried before, the last that was changed first.
+/// Gives the first `count` of these arcs back what they carried before, the last change first.
 fn take_back(before: &[Carried], count: usize, flows: &mut [u64])
     requires { count ≤ length before.now }
     ensures back { IsTakenBack before.now count flows.old flows.new }

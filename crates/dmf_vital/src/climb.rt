@@ -164,8 +164,8 @@ pub fn mend(
     Ok(())
 }
 
-/// Hangs node `u`, which was cut off, below a sound one. It then comes last in the order of its end, and its steps are looked at again. Climbs may
-/// look at steps until they have looked at so many.
+/// Hangs node `u`, which was cut off, below a sound one. It then comes last in the order of its end, and its steps are looked at again. Stops
+/// looking once climbs have looked at `end` steps in all.
 fn hang_anew(
     steps: &Steps,
     along: &Chains,

@@ -16,7 +16,8 @@ ghost use Rattle.dmf_vital.specs.Shifted.{IsReady};
 use crate::order::{index_of, list_order};
 use crate::rerouting::{Rerouting, find_ranks, loss_of_arc, make_rerouting};
 use crate::rest::solve;
-use dmf_solver::{is_saturated_cut, smallest_side};
+use crate::watch::{ValuingWatch, report};
+use dmf_solver::{Unwatched, is_saturated_cut, smallest_side};
 use dmf_state::{Arc, MAX_ARCS, NetFault, NoMemory, Side, State};
 use std::alloc::{AllocError, Global};
 
@@ -44,9 +45,25 @@ pub fn arc_gains(alloc: Global, state: &State, arcs: &[Arc]) -> Result<Vec<u64>,
     ensures gains { IfOk result (λ gains. (k : ℕ) → k < length arcs.now
         → IsGainOfArc state.now.network (slice_index_or arcs.now k no_arc) (slice_index gains.items k)) }
 {
+    arc_gains_watched(alloc, state, arcs, &mut Unwatched)
+}
+
+/// Finds the same, and reports each new arc to the watch.
+pub fn arc_gains_watched<W: ValuingWatch>(
+    alloc: Global,
+    state: &State,
+    arcs: &[Arc],
+    watch: &mut W,
+) -> Result<Vec<u64>, NetFault>
+    requires { IsGreatest state.now.network state.now.flows }
+    ensures refused { IfErr result (λ fault. TakesFourOfEach state.now.network arcs.now → fault ≡ NetFault.NoMemory) }
+    ensures one_each { IfOk result (λ gains. length gains.items ≡ length arcs.now) }
+    ensures gains { IfOk result (λ gains. (k : ℕ) → k < length arcs.now
+        → IsGainOfArc state.now.network (slice_index_or arcs.now k no_arc) (slice_index gains.items k)) }
+{
     check_room(state, arcs)?;
     let extended = extend(alloc, state, arcs)?;
-    Ok(find_gains(alloc, &extended.state, &extended.firsts, arcs)?)
+    Ok(find_gains(alloc, &extended.state, &extended.firsts, arcs, watch)?)
 }
 
 /// What the greatest value gains by a second arc beside each arc, in order, as [`arc_gains`] finds it.
@@ -57,7 +74,22 @@ pub fn second_gains(alloc: Global, state: &State) -> Result<Vec<u64>, NetFault>
     ensures gains { IfOk result (λ gains. (k : ℕ) → k < length state.now.network.arcs
         → IsGainOfSecond state.now.network (k + 1) (slice_index gains.items k)) }
 {
-    arc_gains(alloc, state, state.arcs())
+    second_gains_watched(alloc, state, &mut Unwatched)
+}
+
+/// Finds the same, and reports each arc to the watch.
+pub fn second_gains_watched<W: ValuingWatch>(
+    alloc: Global,
+    state: &State,
+    watch: &mut W,
+) -> Result<Vec<u64>, NetFault>
+    requires { IsGreatest state.now.network state.now.flows }
+    ensures refused { IfErr result (λ fault. TakesFourOfEach state.now.network state.now.network.arcs → fault ≡ NetFault.NoMemory) }
+    ensures one_each { IfOk result (λ gains. length gains.items ≡ length state.now.network.arcs) }
+    ensures gains { IfOk result (λ gains. (k : ℕ) → k < length state.now.network.arcs
+        → IsGainOfSecond state.now.network (k + 1) (slice_index gains.items k)) }
+{
+    arc_gains_watched(alloc, state, state.arcs(), watch)
 }
 
 /// Finds whether the network can take four more arcs of the capacity of each of these.
@@ -96,11 +128,12 @@ fn is_node(state: &State, v: u32) -> bool
 }
 
 /// What each of the new arcs gains for which the state was extended.
-fn find_gains(
+fn find_gains<W: ValuingWatch>(
     alloc: Global,
     more: &State,
     firsts: &[u32],
     arcs: &[Arc],
+    watch: &mut W,
 ) -> Result<Vec<u64>, NoMemory>
     requires one_each { length firsts.now ≡ length arcs.now }
     requires there { (k : ℕ) → k < length arcs.now → HasOwnArcs more.now.network (slice_index firsts.now k) }
@@ -116,6 +149,7 @@ fn find_gains(
     let mut gains = vec![in alloc; 0u64; arcs.len()]?;
     let mut found = vec![in alloc; false; arcs.len()]?;
     for i in 0..order.len() {
+        report(watch, i, arcs.len())?;
         let k = index_of(order[i]);
         if k < arcs.len() {
             gains[k] = gain_of(more, &ranks, &mut rerouting, firsts[k], arcs[k].cap)?;
@@ -123,6 +157,7 @@ fn find_gains(
         }
     }
     for k in 0..arcs.len() {
+        report(watch, k.max(order.len()), arcs.len())?;
         if !found[k] {
             gains[k] = gain_of(more, &ranks, &mut rerouting, firsts[k], arcs[k].cap)?;
         }

@@ -20,7 +20,7 @@ use std::alloc::AllocError;
 
 /// How many steps an end looks at in one turn.
 const TURN: u32 = 16;
-/// A growth ends at so many times the steps that it had looked at when flow was last moved.
+/// A growth ends once it has looked at this many times the steps that it had looked at when flow was last moved.
 const GO_ON: u64 = 3;
 
 /// Moves flow from the exits to other paths, until as much is moved as wanted or too little comes of it.

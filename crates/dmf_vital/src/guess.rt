@@ -4,18 +4,20 @@ ghost use Rattle.dmf_solver.specs.Greatest.{IsGreatest};
 ghost use Rattle.dmf_vital.specs.Rest.{AreThere, IsRest, IsWhole};
 
 use crate::rest::{Rest, Whole, largest_with, leave_out, loss_with};
+use crate::watch::{ValuingWatch, report};
 use crate::worst::{NumberedLoss, is_among};
 use dmf_state::{NoMemory, State};
 use std::alloc::{AllocError, Global};
 
-/// Guesses a loss that so many pairs reach: those of these arcs with any other among some. No contract says that they do.
-pub fn guess_least(
+/// Guesses a loss that `most` pairs reach: those of these arcs with any other among some. No contract says that they do.
+pub fn guess_least<W: ValuingWatch>(
     alloc: Global,
     state: &State,
     whole: &mut Whole,
     tried: &[NumberedLoss],
     among: &[bool],
     most: usize,
+    watch: &mut W,
 ) -> Result<u64, NoMemory>
     requires tried { AreThere state.now.network tried.now }
     requires greatest { IsGreatest state.now.network state.now.flows }
@@ -27,7 +29,7 @@ pub fn guess_least(
     for k in 0..tried.len() {
         let mut rest = leave_out(alloc, state, whole, tried[k].number)?;
         leave(&mut left, tried[k].number);
-        note_losses(state, &mut rest, &left, most, &mut greatest)?;
+        note_losses(state, &mut rest, &left, most, &mut greatest, watch)?;
     }
     if most == 0 || greatest.len() < most {
         return Ok(0);
@@ -44,17 +46,19 @@ pub fn leave(among: &mut Vec<bool>, j: u32) {
 }
 
 /// Adds the losses of pairs of the closed arc and one among these to the `most` greatest.
-fn note_losses(
+fn note_losses<W: ValuingWatch>(
     state: &State,
     rest: &mut Rest,
     among: &[bool],
     most: usize,
     greatest: &mut Vec<u64>,
+    watch: &mut W,
 ) -> Result<(), NoMemory>
     requires greatest { IsGreatest state.now.network state.now.flows }
     requires rest { IsRest state.now.network rest.old }
 {
     for k in 0..state.arcs().len() {
+        report(watch, k, state.arcs().len())?;
         note_second(state, rest, among, most, greatest, k as u32 + 1)?;
     }
     Ok(())

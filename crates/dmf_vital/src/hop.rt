@@ -26,7 +26,7 @@ pub fn to_of(against: bool, arc: Arc) -> u32
     if against { arc.tail } else { arc.head }
 }
 
-/// The residual capacity of a step over the arc, on which so much flows.
+/// The residual capacity of a step over an arc with this flow.
 pub fn room_of(against: bool, arc: Arc, flow: u64) -> u64
     requires { flow ≤ arc.cap }
     ensures { result ≡ room_of against arc flow }

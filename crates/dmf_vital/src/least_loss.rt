@@ -8,6 +8,7 @@ ghost use Rattle.dmf_vital.specs.Shifted.{IsReady};
 use crate::guess::{leave, may_note, note};
 use crate::rerouting::{Rerouting, lower_arc};
 use crate::rest::largest_flow;
+use crate::watch::{ValuingWatch, report};
 use crate::worst::is_among;
 use dmf_state::{NoMemory, State};
 use std::alloc::Global;
@@ -30,13 +31,14 @@ struct Noted {
 ///
 /// Looks at the arcs that carry more than half of the largest flow, then at those with more than a quarter, and so on, until what is left
 /// carries no more than the last of the losses that were found. Of each arc it moves off only what it carries beyond that loss.
-pub fn guess_least_loss(
+pub fn guess_least_loss<W: ValuingWatch>(
     alloc: Global,
     state: &State,
     ranks: &[u32],
     rerouting: &mut Rerouting,
     among: &[bool],
     most: usize,
+    watch: &mut W,
 ) -> Result<u64, NoMemory>
     requires ready { IsReady state.now rerouting.old }
     requires ranks { AreRanks state.now.network rerouting.old.flows.items ranks.now }
@@ -54,18 +56,19 @@ pub fn guess_least_loss(
     let mut floor = largest_flow(&rerouting.flows);
     while floor > 0 && may_note(&noted.greatest, most, floor) {
         floor /= 2;
-        note_above(state, ranks, rerouting, floor, &mut noted)?;
+        note_above(state, ranks, rerouting, floor, &mut noted, watch)?;
     }
     Ok(last_of(&noted))
 }
 
 /// Notes the losses of the arcs that carry more than the floor.
-fn note_above(
+fn note_above<W: ValuingWatch>(
     state: &State,
     ranks: &[u32],
     rerouting: &mut Rerouting,
     floor: u64,
     noted: &mut Noted,
+    watch: &mut W,
 ) -> Result<(), NoMemory>
     requires ready { IsReady state.now rerouting.old }
     requires ranks { AreRanks state.now.network rerouting.old.flows.items ranks.now }
@@ -73,6 +76,7 @@ fn note_above(
     ensures ranks { AreRanks state.now.network rerouting.new.flows.items ranks.now }
 {
     for k in 0..state.arcs().len() {
+        report(watch, k, state.arcs().len())?;
         note_arc(state, ranks, rerouting, floor, noted, k as u32 + 1)?;
     }
     Ok(())

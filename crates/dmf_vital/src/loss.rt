@@ -8,6 +8,8 @@ ghost use Rattle.dmf_vital.specs.Loss.{IsLossOfArc, IsLossAt};
 ghost use Rattle.dmf_vital.specs.Without.{without_arc, without_node};
 
 use crate::rerouting::{find_ranks, loss_at, loss_of_arc, loss_of_node, make_rerouting};
+use crate::watch::{ValuingWatch, report};
+use dmf_solver::Unwatched;
 use dmf_state::{NoMemory, State};
 use std::alloc::{AllocError, Global};
 
@@ -31,8 +33,22 @@ pub fn arc_losses(alloc: Global, state: &State) -> Result<Vec<u64>, NoMemory>
     ensures losses { IfOk result (λ losses. (k : ℕ) → k < length losses.items
         → IsLossOfArc state.now.network (k + 1) (slice_index losses.items k)) }
 {
+    arc_losses_watched(alloc, state, &mut Unwatched)
+}
+
+/// Finds the same, and reports each arc to the watch.
+pub fn arc_losses_watched<W: ValuingWatch>(
+    alloc: Global,
+    state: &State,
+    watch: &mut W,
+) -> Result<Vec<u64>, NoMemory>
+    requires { IsGreatest state.now.network state.now.flows }
+    ensures one_each { IfOk result (λ losses. length losses.items ≡ length state.now.network.arcs) }
+    ensures losses { IfOk result (λ losses. (k : ℕ) → k < length losses.items
+        → IsLossOfArc state.now.network (k + 1) (slice_index losses.items k)) }
+{
     let all = numbers_to(alloc, state.arcs().len() as u32)?;
-    arc_losses_of(alloc, state, &all)
+    arc_losses_of_watched(alloc, state, &all, watch)
 }
 
 /// What is lost without each of these arcs alone, in order, of a state whose flow is greatest. The state stays as it is. Fails only if
@@ -44,10 +60,27 @@ pub fn arc_losses_of(alloc: Global, state: &State, arcs: &[u32]) -> Result<Vec<u
     ensures losses { IfOk result (λ losses. (k : ℕ) → k < length losses.items
         → IsLossOfArc state.now.network (slice_index arcs.now k) (slice_index losses.items k)) }
 {
+    arc_losses_of_watched(alloc, state, arcs, &mut Unwatched)
+}
+
+/// Finds the same, and reports each arc to the watch.
+pub fn arc_losses_of_watched<W: ValuingWatch>(
+    alloc: Global,
+    state: &State,
+    arcs: &[u32],
+    watch: &mut W,
+) -> Result<Vec<u64>, NoMemory>
+    requires there { All (λ j. has_arc state.now.network j ≡ true) arcs.now }
+    requires greatest { IsGreatest state.now.network state.now.flows }
+    ensures one_each { IfOk result (λ losses. length losses.items ≡ length arcs.now) }
+    ensures losses { IfOk result (λ losses. (k : ℕ) → k < length losses.items
+        → IsLossOfArc state.now.network (slice_index arcs.now k) (slice_index losses.items k)) }
+{
     let mut rerouting = make_rerouting(alloc, state)?;
     let ranks = find_ranks(alloc, state, &rerouting)?;
     let mut losses = vec![in alloc; 0u64; arcs.len()]?;
     for k in 0..arcs.len() {
+        report(watch, k, arcs.len())?;
         losses[k] = loss_of_arc(state, &ranks, &mut rerouting, arcs[k])?;
     }
     Ok(losses)
@@ -74,8 +107,22 @@ pub fn node_losses(alloc: Global, state: &State) -> Result<Vec<u64>, NoMemory>
     ensures losses { IfOk result (λ losses. (k : ℕ) → k < length losses.items
         → IsLossAt state.now.network (k + 1) (slice_index losses.items k)) }
 {
+    node_losses_watched(alloc, state, &mut Unwatched)
+}
+
+/// Finds the same, and reports each node to the watch.
+pub fn node_losses_watched<W: ValuingWatch>(
+    alloc: Global,
+    state: &State,
+    watch: &mut W,
+) -> Result<Vec<u64>, NoMemory>
+    requires { IsGreatest state.now.network state.now.flows }
+    ensures one_each { IfOk result (λ losses. length losses.items ≡ state.now.network.nodes) }
+    ensures losses { IfOk result (λ losses. (k : ℕ) → k < length losses.items
+        → IsLossAt state.now.network (k + 1) (slice_index losses.items k)) }
+{
     let all = numbers_to(alloc, state.nodes())?;
-    node_losses_of(alloc, state, &all)
+    node_losses_of_watched(alloc, state, &all, watch)
 }
 
 /// What is lost without each of these nodes alone, in order, of a state whose flow is greatest, and 0 for the source and the sink. The state
@@ -87,10 +134,27 @@ pub fn node_losses_of(alloc: Global, state: &State, nodes: &[u32]) -> Result<Vec
     ensures losses { IfOk result (λ losses. (k : ℕ) → k < length losses.items
         → IsLossAt state.now.network (slice_index nodes.now k) (slice_index losses.items k)) }
 {
+    node_losses_of_watched(alloc, state, nodes, &mut Unwatched)
+}
+
+/// Finds the same, and reports each node to the watch.
+pub fn node_losses_of_watched<W: ValuingWatch>(
+    alloc: Global,
+    state: &State,
+    nodes: &[u32],
+    watch: &mut W,
+) -> Result<Vec<u64>, NoMemory>
+    requires there { All (λ v. is_node state.now.network.nodes v ≡ true) nodes.now }
+    requires greatest { IsGreatest state.now.network state.now.flows }
+    ensures one_each { IfOk result (λ losses. length losses.items ≡ length nodes.now) }
+    ensures losses { IfOk result (λ losses. (k : ℕ) → k < length losses.items
+        → IsLossAt state.now.network (slice_index nodes.now k) (slice_index losses.items k)) }
+{
     let mut rerouting = make_rerouting(alloc, state)?;
     let ranks = find_ranks(alloc, state, &rerouting)?;
     let mut losses = vec![in alloc; 0u64; nodes.len()]?;
     for k in 0..nodes.len() {
+        report(watch, k, nodes.len())?;
         losses[k] = loss_at(state, &ranks, &mut rerouting, nodes[k])?;
     }
     Ok(losses)

@@ -12,11 +12,13 @@ use crate::rest::{
     Rest, Whole, close_arc, largest_beside, largest_flow, largest_with, leave_out, loss_with,
     make_whole, move_off_arc, rest_without,
 };
+use crate::watch::{ValuingWatch, report};
 use crate::worst::{Limits, NumberedLoss, consider, is_among, list_worst_arcs, may_enter};
+use dmf_solver::Unwatched;
 use dmf_state::{NoMemory, State};
 use std::alloc::Global;
 
-/// So many arcs are tried as the first of two to guess how large the worst losses are.
+/// The most arcs that are tried as the first of two to guess how large the worst losses are.
 const TRIED: usize = 8;
 
 /// What is lost without both arcs of each pair, in order, of a state whose flow is greatest. The first arc of the pair at an index is the
@@ -38,6 +40,25 @@ pub fn pair_losses(
     ensures losses { IfOk result (λ losses. (k : ℕ) → k < length losses.items
         → IsLossOfPair state.now.network (slice_index firsts.now k) (slice_index seconds.now k) (slice_index losses.items k)) }
 {
+    pair_losses_watched(alloc, state, firsts, seconds, &mut Unwatched)
+}
+
+/// Finds the same, and reports each pair to the watch.
+pub fn pair_losses_watched<W: ValuingWatch>(
+    alloc: Global,
+    state: &State,
+    firsts: &[u32],
+    seconds: &[u32],
+    watch: &mut W,
+) -> Result<Vec<u64>, NoMemory>
+    requires one_each { length seconds.now ≡ length firsts.now }
+    requires firsts_there { All (λ i. has_arc state.now.network i ≡ true) firsts.now }
+    requires seconds_there { All (λ j. has_arc state.now.network j ≡ true) seconds.now }
+    requires greatest { IsGreatest state.now.network state.now.flows }
+    ensures one_each { IfOk result (λ losses. length losses.items ≡ length firsts.now) }
+    ensures losses { IfOk result (λ losses. (k : ℕ) → k < length losses.items
+        → IsLossOfPair state.now.network (slice_index firsts.now k) (slice_index seconds.now k) (slice_index losses.items k)) }
+{
     let mut losses = vec![in alloc; 0u64; firsts.len()]?;
     if firsts.is_empty() {
         return Ok(losses);
@@ -45,6 +66,7 @@ pub fn pair_losses(
     let mut whole = make_whole(alloc, state)?;
     let mut rest = leave_out(alloc, state, &mut whole, firsts[0])?;
     for k in 0..firsts.len() {
+        report(watch, k, firsts.len())?;
         rest = rest_without(alloc, state, &mut whole, rest, firsts[k])?;
         losses[k] = loss_with(state, &mut rest, seconds[k])?;
     }
@@ -59,8 +81,21 @@ pub fn worst_pairs(alloc: Global, state: &State, most: usize) -> Result<Vec<Numb
     requires { IsGreatest state.now.network state.now.flows }
     ensures { IfOk result (λ worst. AreWorst (IsPairLoss state.now.network) most worst.items) }
 {
+    worst_pairs_watched(alloc, state, most, &mut Unwatched)
+}
+
+/// Finds the same, and reports to the watch as [`worst_pairs_among_watched`] does.
+pub fn worst_pairs_watched<W: ValuingWatch>(
+    alloc: Global,
+    state: &State,
+    most: usize,
+    watch: &mut W,
+) -> Result<Vec<NumberedLoss>, NoMemory>
+    requires { IsGreatest state.now.network state.now.flows }
+    ensures { IfOk result (λ worst. AreWorst (IsPairLoss state.now.network) most worst.items) }
+{
     let all = vec![in alloc; true; state.arcs().len()]?;
-    worst_pairs_among(alloc, state, &all, most)
+    worst_pairs_among_watched(alloc, state, &all, most, watch)
 }
 
 /// The same of pairs of some arcs: those for which `among`, which has an element for each arc, has true.
@@ -73,30 +108,62 @@ pub fn worst_pairs_among(
     requires { IsGreatest state.now.network state.now.flows }
     ensures { IfOk result (λ worst. AreWorst (IsPairLossAmong state.now.network among.now) most worst.items) }
 {
+    worst_pairs_among_watched(alloc, state, among, most, &mut Unwatched)
+}
+
+/// Finds the same, and reports to the watch each arc that is tried, and then each arc as the first of two.
+pub fn worst_pairs_among_watched<W: ValuingWatch>(
+    alloc: Global,
+    state: &State,
+    among: &[bool],
+    most: usize,
+    watch: &mut W,
+) -> Result<Vec<NumberedLoss>, NoMemory>
+    requires { IsGreatest state.now.network state.now.flows }
+    ensures { IfOk result (λ worst. AreWorst (IsPairLossAmong state.now.network among.now) most worst.items) }
+{
     let mut rerouting = make_rerouting(alloc, state)?;
     let ranks = find_ranks(alloc, state, &rerouting)?;
-    let tried = list_worst_arcs(alloc, state, &ranks, &mut rerouting, among, TRIED)?;
+    let tried = list_worst_arcs(alloc, state, &ranks, &mut rerouting, among, TRIED, watch)?;
     let largest = largest_flow(&rerouting.flows);
     let mut whole = Whole {
         rerouting,
         ranks,
         largest,
     };
-    let least = guess_least(alloc, state, &mut whole, &tried, among, most)?;
-    let worst = list_worst(alloc, state, &mut whole, among, Limits { most, least })?;
+    let least = guess_least(alloc, state, &mut whole, &tried, among, most, watch)?;
+    let worst = list_worst(
+        alloc,
+        state,
+        &mut whole,
+        among,
+        Limits { most, least },
+        watch,
+    )?;
+    if least == 0 {
+        return Ok(worst);
+    }
     if worst.len() == most {
         return Ok(worst);
     }
-    list_worst(alloc, state, &mut whole, among, Limits { most, least: 0 })
+    list_worst(
+        alloc,
+        state,
+        &mut whole,
+        among,
+        Limits { most, least: 0 },
+        watch,
+    )
 }
 
 /// The worst pairs of arcs among these whose loss is large enough.
-fn list_worst(
+fn list_worst<W: ValuingWatch>(
     alloc: Global,
     state: &State,
     whole: &mut Whole,
     among: &[bool],
     limits: Limits,
+    watch: &mut W,
 ) -> Result<Vec<NumberedLoss>, NoMemory>
     requires greatest { IsGreatest state.now.network state.now.flows }
     requires whole { IsWhole state.now whole.old }
@@ -105,13 +172,23 @@ fn list_worst(
 {
     let mut worst = Vec::new(alloc);
     for k in 0..state.arcs().len() {
-        consider_first(alloc, state, whole, among, &mut worst, limits, k as u32 + 1)?;
+        report(watch, k, state.arcs().len())?;
+        consider_first(
+            alloc,
+            state,
+            whole,
+            among,
+            &mut worst,
+            limits,
+            k as u32 + 1,
+            watch,
+        )?;
     }
     Ok(worst)
 }
 
 /// Looks at the pairs with the first arc number `i`, after those with smaller ones.
-fn consider_first(
+fn consider_first<W: ValuingWatch>(
     alloc: Global,
     state: &State,
     whole: &mut Whole,
@@ -119,6 +196,7 @@ fn consider_first(
     worst: &mut Vec<NumberedLoss>,
     limits: Limits,
     i: u32,
+    watch: &mut W,
 ) -> Result<(), NoMemory>
     requires is_there { has_arc state.now.network i ≡ true }
     requires greatest { IsGreatest state.now.network state.now.flows }
@@ -139,6 +217,7 @@ fn consider_first(
     }
     let mut rest = close_arc(alloc, state, &whole.rerouting.flows, i)?;
     for k in i as usize..state.arcs().len() {
+        report(watch, (i as usize).saturating_sub(1), state.arcs().len())?;
         consider_second(state, &mut rest, among, worst, limits, k as u32 + 1)?;
     }
     Ok(())

@@ -153,7 +153,7 @@ fn look_over(
     Ok(())
 }
 
-/// Whether a step over the arc has room, if so much flows on it.
+/// Whether a step over an arc with this flow has room.
 pub fn is_open(against: bool, arc: Arc, flow: u64) -> bool {
     if against { flow > 0 } else { flow < arc.cap }
 }

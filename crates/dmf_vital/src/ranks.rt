@@ -41,7 +41,7 @@ fn are_ranks(state: &State, flows: &[u64], ranks: &[u32]) -> bool
     true
 }
 
-/// Whether a step over the arc, on which so much flows, leads to a node of a higher rank.
+/// Whether a step over an arc with this flow leads to a node of a higher rank.
 fn rises(ranks: &[u32], arc: Arc, flow: u64) -> bool
     ensures along { result ≡ false → StaysLow ranks.now false arc flow }
     ensures against { result ≡ false → StaysLow ranks.now true arc flow }

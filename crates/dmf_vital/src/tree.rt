@@ -27,7 +27,7 @@ pub struct Tree {
     pub found: Vec<u32>,
 }
 
-/// A tree that has reached no node. Takes memory for so many nodes.
+/// A tree that has reached no node. Takes memory for each node.
 pub fn make_tree(alloc: Global, nodes: u32) -> Result<Tree, AllocError>
     ensures { IfOk result (λ tree. AreListed nodes tree.nodes.items tree.found.items) }
 {

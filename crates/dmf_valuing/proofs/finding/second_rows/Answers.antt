@@ -11,49 +11,49 @@ use Rattle.dmf_valuing.proofs.finding.second_rows.Goals as goal
 use Rattle.dmf_valuing.proofs.finding.second_rows.Goals.{After-index}
 
 -- There are as many losses as arcs.
-many : (c : After-index) → length c.args.losses.now ≡ length c.args.state.now.network.arcs
-many c =
+many : (g : _) (c : After-index g) → length c.args.losses.now ≡ length c.args.state.now.network.arcs
+many g c =
     let arcs = length c.args.state.now.network.arcs in
     long (IsArcLoss c.args.state.now.network) (range_with_len 1 arcs) c.args.losses.now c.requires.losses ∙ length-range_with_len 1 arcs
 
 -- The gain at the index is read.
-gain-read : (c : After-index) → c.index.result.now ≡ get_or c.in_ok-gains.gains.items c.loop-k.k 0
-gain-read c =
-    let inside : c.loop-k.k < length c.in_ok-gains.gains.items = omega (arith, many c, c.loop-k-test.true, c.in_ok-gains.ensures.one_each) in
+gain-read : (g : _) (c : After-index g) → c.index.result.now ≡ get_or c.in_ok-gains.gains.items c.loop-k.k 0
+gain-read g c =
+    let inside : c.loop-k.k < length c.in_ok-gains.gains.items = omega (arith, many g c, c.loop-k-test.true, c.in_ok-gains.ensures.one_each) in
     get_or_read c.in_ok-gains.gains.items c.loop-k.k c.index.result.now inside c.index.ensures 0
 
 pub index-requires : goal.index-requires
-index-requires c =
+index-requires g c =
     let arcs = length c.args.state.now.network.arcs in
     let many = long (IsArcLoss c.args.state.now.network) (range_with_len 1 arcs) c.args.losses.now c.requires.losses ∙ length-range_with_len 1 arcs in
     omega (arith, many, c.loop-k-test.true, c.in_ok-gains.ensures.one_each)
 
 pub returns-in_default-clause-refused : goal.returns-in_default-clause-refused
-returns-in_default-clause-refused c =
+returns-in_default-clause-refused g c =
     let n = c.args.state.now.network in
-    let before = (goal.at.returns-in_default-clause-refused c).After-index in
-    let inside : c.loop-k.k < length n.arcs = omega (arith, many before, c.loop-k-test.true) in
+    let before = (goal.at.returns-in_default-clause-refused g c).After-index in
+    let inside : c.loop-k.k < length n.arcs = omega (arith, many g before, c.loop-k-test.true) in
     let gain = c.in_ok-gains.ensures.gains c.loop-k.k inside in
     inr (
       refl,
       no-room n c.args.state.now.flows c.value-value.result c.requires.greatest c.value-value.ensures.value c.loop-k.k _ inside gain
-          (omega (arith, gain-read before, c.in_default.ensures)),
+          (omega (arith, gain-read g before, c.in_default.ensures)),
     )
 
 pub loop-k-preserved : goal.loop-k-preserved
-loop-k-preserved c =
+loop-k-preserved g c =
     let value = c.value-value.result in
     let losses = c.args.losses.now in
     let gains = c.in_ok-gains.gains.items in
     let k = c.loop-k.k in
     let row : row_of c.second_row.result ≡ second_at value losses gains k =
     c.second_row.ensures ∙ ap (λ (more : ℕ). (get_or losses k none).number ∷ (value - (get_or losses k none).loss) ∷ more ∷ [])
-    (c.in-Some.ensures.1 ∙ ap (λ (gain : ℕ). value + gain) (gain-read (goal.at.loop-k-preserved c).After-index)) in
+    (c.in-Some.ensures.1 ∙ ap (λ (gain : ℕ). value + gain) (gain-read g (goal.at.loop-k-preserved g c).After-index)) in
     ap (map row_of) c.in-Ok.ensures.items ∙ map_push row_of c.loop-k.rows.items c.second_row.result
     ∙ ap₂ (λ (rows : List Row) (one : Row). rows ++ one ∷ []) c.loop-k.invariant row ∙ sym (one-more value losses gains k)
 
 pub returns-clause-rows : goal.returns-clause-rows
-returns-clause-rows c =
+returns-clause-rows g c =
     let n = c.args.state.now.network in
     let value = c.value-value.result in
     let losses = c.args.losses.now in

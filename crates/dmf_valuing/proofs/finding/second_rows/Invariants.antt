@@ -5,4 +5,4 @@ use Rattle.dmf_valuing.proofs.finding.second_rows.Given as goal
 
 -- the arcs before index k have rows
 abbrev pub invariant-loop-k : goal.invariant-loop-k
-invariant-loop-k l = map row_of l.rows.items ≡ seconds l.value l.losses l.gains.items l.k
+invariant-loop-k g l = map row_of l.rows.items ≡ seconds l.value l.losses l.gains.items l.k

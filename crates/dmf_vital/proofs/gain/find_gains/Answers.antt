@@ -10,7 +10,7 @@ use Rattle.dmf_vital.proofs.gain.find_gains.Goals as goal
 use Rattle.dmf_vital.proofs.gain.find_gains.Goals.{then-k-arcs+in_ok-gains-2, else-k-arcs, then-not-index+in_ok-gains-3, else-not-index}
 
 pub loop-i-preserved : goal.loop-i-preserved
-loop-i-preserved c =
+loop-i-preserved g c =
     let arcs = c.args.arcs.now in
     let k : ℕ = c.index_of-k.result in
     let old = c.loop-i.gains.items in
@@ -32,7 +32,7 @@ loop-i-preserved c =
     ]
 
 pub loop-k-preserved : goal.loop-k-preserved
-loop-k-preserved c =
+loop-k-preserved g c =
     let arcs = c.args.arcs.now in
     let k : ℕ = c.loop-k.k in
     let old = c.loop-k.gains.items in

@@ -8,7 +8,7 @@ use Rattle.dmf_vital.specs.Shifted.{IsReady}
 use Rattle.dmf_vital.proofs.gain.find_gains.Given as goal
 
 abbrev pub invariant-loop-i : goal.invariant-loop-i
-invariant-loop-i l = record {
+invariant-loop-i g l = record {
   ready : IsReady l.more l.rerouting;
   ranks : AreRanks l.more.network l.rerouting.flows.items l.ranks.items;
   one_each : length l.gains.items ≡ length l.arcs;
@@ -18,7 +18,7 @@ invariant-loop-i l = record {
 }
 
 abbrev pub invariant-loop-k : goal.invariant-loop-k
-invariant-loop-k l = record {
+invariant-loop-k g l = record {
   ready : IsReady l.more l.rerouting;
   ranks : AreRanks l.more.network l.rerouting.flows.items l.ranks.items;
   one_each : length l.gains.items ≡ length l.arcs;

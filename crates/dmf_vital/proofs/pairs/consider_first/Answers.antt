@@ -9,7 +9,7 @@ use Rattle.dmf_vital.proofs.Entered.{first-next, next-none, none-next, not-among
 use Rattle.dmf_vital.proofs.pairs.consider_first.Goals as goal
 
 pub returns-then-not-is_among : goal.returns-then-not-is_among
-returns-then-not-is_among c =
+returns-then-not-is_among g c =
     let n = c.args.state.now.network in
     let i : ℕ = c.args.i in
     record {
@@ -20,13 +20,13 @@ returns-then-not-is_among c =
     }
 
 pub may_enter-requires-clause-order : goal.may_enter-requires-clause-order
-may_enter-requires-clause-order c = subst (λ (l : List NumberedLoss). AllPairs IsWorse l) (sym c.deref.ensures.value) c.requires.worst.in_order
+may_enter-requires-clause-order g c = subst (λ (l : List NumberedLoss). AllPairs IsWorse l) (sym c.deref.ensures.value) c.requires.worst.in_order
 
 pub may_enter-requires-2-clause-order : goal.may_enter-requires-2-clause-order
-may_enter-requires-2-clause-order c = subst (λ (l : List NumberedLoss). AllPairs IsWorse l) (sym c.deref-2.ensures.value) c.requires.worst.in_order
+may_enter-requires-2-clause-order g c = subst (λ (l : List NumberedLoss). AllPairs IsWorse l) (sym c.deref-2.ensures.value) c.requires.worst.in_order
 
 pub returns-then-not-may_enter : goal.returns-then-not-may_enter
-returns-then-not-may_enter c =
+returns-then-not-may_enter g c =
     let out : IsShutOut c.largest_beside.result c.args.limits c.args.worst.now.items =
     subst (IsShutOut c.largest_beside.result c.args.limits) c.deref.ensures.value (c.may_enter.ensures c.if-not-may_enter.true) in
     record {
@@ -36,7 +36,7 @@ returns-then-not-may_enter c =
     }
 
 pub returns-then-not-may_enter-2 : goal.returns-then-not-may_enter-2
-returns-then-not-may_enter-2 c =
+returns-then-not-may_enter-2 g c =
     let out : IsShutOut c.largest_beside-2.result c.args.limits c.args.worst.now.items =
     subst (IsShutOut c.largest_beside-2.result c.args.limits) c.deref-2.ensures.value (c.may_enter-2.ensures c.if-not-may_enter-2.true) in
     record {
@@ -46,7 +46,7 @@ returns-then-not-may_enter-2 c =
     }
 
 pub loop-k-init : goal.loop-k-init
-loop-k-init c = record {
+loop-k-init g c = record {
   rest = c.in_ok-rest.ensures.rest;
   without = c.in_ok-rest.ensures.same;
   worst = next-none (IsPairLossAmong c.args.state.now.network c.args.among.now) c.args.i 0 c.args.i c.args.i c.args.limits c.args.worst.now.items (wider-none c.args.i c.args.i)
@@ -54,14 +54,14 @@ loop-k-init c = record {
 }
 
 pub consider_second-requires-clause-worst : goal.consider_second-requires-clause-worst
-consider_second-requires-clause-worst c =
+consider_second-requires-clause-worst g c =
     let back : c.loop-k.k ≡ c.loop-k.k + 1 - 1 = omega arith in
     subst (λ (m : ℕ). AreWorstUpTo (IsPairLossAmong c.args.state.now.network c.args.among.now) c.loop-k.rest.without m c.args.limits c.loop-k.worst.items) back
     (subst (λ (m : ℕ). AreWorstUpTo (IsPairLossAmong c.args.state.now.network c.args.among.now) m c.loop-k.k c.args.limits c.loop-k.worst.items) (sym c.loop-k.invariant.without)
     c.loop-k.invariant.worst)
 
 pub returns : goal.returns
-returns c =
+returns g c =
     let n = c.args.state.now.network in
     let i : ℕ = c.args.i in
     let k : ℕ = c.loop-k.k in

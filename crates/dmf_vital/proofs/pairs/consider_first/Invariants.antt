@@ -5,7 +5,7 @@ use Rattle.dmf_vital.specs.Worst.{IsPairLossAmong}
 use Rattle.dmf_vital.proofs.pairs.consider_first.Given as goal
 
 abbrev pub invariant-loop-k : goal.invariant-loop-k
-invariant-loop-k l = record {
+invariant-loop-k g l = record {
   rest : IsRest l.state.network l.rest;
   without : l.rest.without ≡ l.i;
   worst : AreWorstUpTo (IsPairLossAmong l.state.network l.among) l.i l.k l.limits l.worst.items;

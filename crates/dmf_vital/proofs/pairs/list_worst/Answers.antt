@@ -5,7 +5,7 @@ use Rattle.dmf_vital.proofs.Entered.{worst-large}
 use Rattle.dmf_vital.proofs.pairs.list_worst.Goals as goal
 
 pub returns : goal.returns
-returns c =
+returns g c =
     let n = c.args.state.now.network in
     record {
       whole = c.loop-k.invariant.whole;

@@ -5,7 +5,7 @@ use Rattle.dmf_vital.specs.Worst.{IsArcLossAmong}
 use Rattle.dmf_vital.proofs.worst.list_large_arcs.Given as goal
 
 abbrev pub invariant-loop-k : goal.invariant-loop-k
-invariant-loop-k l = record {
+invariant-loop-k g l = record {
   ready : IsReady l.state l.rerouting;
   ranks : AreRanks l.state.network l.rerouting.flows.items l.ranks;
   worst : AreWorstUpTo (IsArcLossAmong l.state.network l.among) l.k 0 l.limits l.worst.items;

@@ -2,10 +2,10 @@ use Rattle.std.proofs.Common.{ℕ, ◌≡◌, ◌≢◌, ◌<◌, length, get_or
 use Rattle.std.proofs.lemmas.Bool.{cases_eq}
 use Rattle.std.proofs.lemmas.List.{get_or-set_same, get_or-set_other, length-set}
 use Rattle.dmf_vital.specs.Loss.{IsLossOfPair}
-use Rattle.dmf_vital.proofs.pairs.pair_losses.Goals as goal
+use Rattle.dmf_vital.proofs.pairs.pair_losses_watched.Goals as goal
 
 pub loop-k-preserved : goal.loop-k-preserved
-loop-k-preserved c =
+loop-k-preserved g c =
     let n = c.args.state.now.network in
     let k : ℕ = c.loop-k.k in
     let old = c.loop-k.losses.items in
@@ -31,4 +31,4 @@ loop-k-preserved c =
     }
 
 pub returns-clause-losses : goal.returns-clause-losses
-returns-clause-losses c = λ k h. c.loop-k.invariant.losses k (omega (arith, h, c.loop-k-test.false, c.loop-k.invariant.one_each))
+returns-clause-losses g c = λ k h. c.loop-k.invariant.losses k (omega (arith, h, c.loop-k-test.false, c.loop-k.invariant.one_each))

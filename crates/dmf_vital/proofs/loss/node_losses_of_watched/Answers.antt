@@ -6,10 +6,10 @@ use Rattle.dmf_node.specs.Node.{is_node}
 use Rattle.dmf_state.proofs.IdleArc.{IsNode-is_node}
 use Rattle.dmf_vital.specs.Loss.{IsLossAt}
 use Rattle.dmf_vital.specs.Ranks.{AreRanks}
-use Rattle.dmf_vital.proofs.loss.node_losses_of.Goals as goal
+use Rattle.dmf_vital.proofs.loss.node_losses_of_watched.Goals as goal
 
 pub loop-k-preserved : goal.loop-k-preserved
-loop-k-preserved c =
+loop-k-preserved g c =
     let n = c.args.state.now.network in
     let k : ℕ = c.loop-k.k in
     let nodes = c.args.nodes.now in
@@ -30,10 +30,10 @@ loop-k-preserved c =
     }
 
 pub loss_at-requires-clause-node : goal.loss_at-requires-clause-node
-loss_at-requires-clause-node c =
+loss_at-requires-clause-node g c =
     let count = c.args.state.now.network.nodes in
     let nodes = c.args.nodes.now in
     IsNode-is_node count (get_or nodes c.loop-k.k 0) (All-get_or (λ v. is_node count v ≡ true) nodes c.loop-k.k 0 (omega (arith, c.loop-k-test.true)) c.requires.there)
 
 pub returns-clause-losses : goal.returns-clause-losses
-returns-clause-losses c = λ k h. c.loop-k.invariant.losses k (omega (arith, h, c.loop-k-test.false, c.loop-k.invariant.one_each))
+returns-clause-losses g c = λ k h. c.loop-k.invariant.losses k (omega (arith, h, c.loop-k-test.false, c.loop-k.invariant.one_each))

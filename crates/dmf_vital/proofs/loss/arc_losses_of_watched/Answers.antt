@@ -5,10 +5,10 @@ use Rattle.std.proofs.lemmas.List.Elements.{All-get_or}
 use Rattle.dmf_state.specs.Network.{has_arc}
 use Rattle.dmf_vital.specs.Loss.{IsLossOfArc}
 use Rattle.dmf_vital.specs.Ranks.{AreRanks}
-use Rattle.dmf_vital.proofs.loss.arc_losses_of.Goals as goal
+use Rattle.dmf_vital.proofs.loss.arc_losses_of_watched.Goals as goal
 
 pub loop-k-preserved : goal.loop-k-preserved
-loop-k-preserved c =
+loop-k-preserved g c =
     let n = c.args.state.now.network in
     let k : ℕ = c.loop-k.k in
     let arcs = c.args.arcs.now in
@@ -29,7 +29,7 @@ loop-k-preserved c =
     }
 
 pub loss_of_arc-requires-clause-is_there : goal.loss_of_arc-requires-clause-is_there
-loss_of_arc-requires-clause-is_there c = All-get_or (λ j. has_arc c.args.state.now.network j ≡ true) c.args.arcs.now c.loop-k.k 0 (omega (arith, c.loop-k-test.true)) c.requires.there
+loss_of_arc-requires-clause-is_there g c = All-get_or (λ j. has_arc c.args.state.now.network j ≡ true) c.args.arcs.now c.loop-k.k 0 (omega (arith, c.loop-k-test.true)) c.requires.there
 
 pub returns-clause-losses : goal.returns-clause-losses
-returns-clause-losses c = λ k h. c.loop-k.invariant.losses k (omega (arith, h, c.loop-k-test.false, c.loop-k.invariant.one_each))
+returns-clause-losses g c = λ k h. c.loop-k.invariant.losses k (omega (arith, h, c.loop-k-test.false, c.loop-k.invariant.one_each))

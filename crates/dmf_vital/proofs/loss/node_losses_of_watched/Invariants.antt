@@ -2,10 +2,10 @@ use Rattle.std.proofs.Common.{ℕ, ◌≡◌, ◌<◌, length, get_or}
 use Rattle.dmf_vital.specs.Loss.{IsLossAt}
 use Rattle.dmf_vital.specs.Ranks.{AreRanks}
 use Rattle.dmf_vital.specs.Shifted.{IsReady}
-use Rattle.dmf_vital.proofs.loss.node_losses_of.Given as goal
+use Rattle.dmf_vital.proofs.loss.node_losses_of_watched.Given as goal
 
 abbrev pub invariant-loop-k : goal.invariant-loop-k
-invariant-loop-k l = record {
+invariant-loop-k g l = record {
   ready : IsReady l.state l.rerouting;
   ranks : AreRanks l.state.network l.rerouting.flows.items l.ranks.items;
   one_each : length l.losses.items ≡ length l.nodes;
