@@ -52,6 +52,14 @@ until_code answer has_stopped = answer_code answer
 abbrev pub AnswersUntil : Timeline → ℕ → Timeline → Type 0
 AnswersUntil t code u = ((code ≡ DMF_STOPPED) × (u ≡ t)) ⊎ AnswersCode t Solve code u
 
+-- The answer to a call that a flag may end, in place of one of this number: the same, or that it was ended where memory would be refused.
+abbrev pub Ends : ℕ → ℕ → Type 0
+Ends plain code = (code ≡ plain) ⊎ ((plain ≡ DMF_NO_MEMORY) × (code ≡ DMF_STOPPED))
+
+-- The number is one of these answers, or says that a flag has ended the call, where one of them says that memory was refused.
+abbrev pub OrEnded : (ℕ → Type 0) → ℕ → Type 0
+OrEnded Answer code = Answer code ⊎ (Answer DMF_NO_MEMORY × (code ≡ DMF_STOPPED))
+
 -- The timeline `u` has as its present state that of `t` with one arc more, the last, from `tail` to `head` of this capacity, which carries
 -- no flow. So its number is how many arcs there are.
 pub record AddsLast (t : Timeline) (tail head cap : ℕ) (u : Timeline) : Type 0 where

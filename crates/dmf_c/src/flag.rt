@@ -1,5 +1,6 @@
-//! The flag that ends a solve, and the watch that looks at it.
+//! The flag that ends long calls, and the watch that looks at it.
 use dmf_solver::{Turn, Watch};
+use dmf_vital::ValuingWatch;
 use std::alloc::{AllocError, Global};
 use std::marker::Model;
 use std::sync::Arc;
@@ -42,11 +43,11 @@ impl Flag {
     }
 }
 
-/// Ends a solve once the flag is raised.
+/// Ends a call once the flag is raised.
 #[derive(Drop)]
 pub struct StopWatch<'a> {
     flag: &'a Flag,
-    /// Whether it has ended a solve.
+    /// Whether it has ended a call.
     pub has_stopped: bool,
 }
 
@@ -58,6 +59,12 @@ impl<'a> StopWatch<'a> {
             has_stopped: false,
         }
     }
+
+    /// Looks at the flag. Returns whether the call may go on.
+    fn looks(&mut self) -> bool {
+        self.has_stopped = self.flag.is_raised();
+        !self.has_stopped
+    }
 }
 
 impl Watch for StopWatch<'_> {
@@ -66,7 +73,12 @@ impl Watch for StopWatch<'_> {
     fn lowered(&mut self, _turn: Turn, _amount: u64) {}
 
     fn goes_on(&mut self) -> bool {
-        self.has_stopped = self.flag.is_raised();
-        !self.has_stopped
+        self.looks()
+    }
+}
+
+impl ValuingWatch for StopWatch<'_> {
+    fn valued(&mut self, _done: usize, _count: usize) -> bool {
+        self.looks()
     }
 }

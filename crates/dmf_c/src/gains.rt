@@ -1,16 +1,20 @@
 //! What new arcs would bring to the present network.
 ghost use Rattle.std.specs.Prelude.{◌≡◌, ◌≢◌, true, length, All, IfOk};
 ghost use Rattle.dmf_state.specs.Network.{has_arc};
-ghost use Rattle.dmf_c.specs.Codes.{OfPresent};
+ghost use Rattle.dmf_c.specs.Codes.{OfPresent, OrEnded};
 ghost use Rattle.dmf_c.specs.Gains.{AnswersNewArcGains, AnswersSecondGains, AreGains, TellsGains, arcs_of, open_arcs};
 ghost use Rattle.dmf_c.specs.Status.{DMF_OK};
 
 use crate::building::fault_code;
 use crate::checking::greatest;
+use crate::flag::StopWatch;
 use crate::handle::Handle;
 use crate::losses::{are_arcs, are_nodes};
+use crate::stop::Stop;
+use crate::stopping::ended_code;
+use dmf_solver::Unwatched;
 use dmf_state::{Arc, State};
-use dmf_vital::arc_gains;
+use dmf_vital::{ValuingWatch, arc_gains_watched};
 use std::alloc::{AllocError, Global};
 
 /// What is gained by a second arc beside each of these arcs.
@@ -27,7 +31,27 @@ pub extern "C" fn dmf_session_second_gains(
     ensures unchanged { session.new.timeline ≡ session.old.timeline }
 {
     let present = session.plan().present();
-    copy_second_gains(alloc, present, arcs, gains)
+    copy_second_gains(alloc, present, arcs, gains, &mut Unwatched)
+}
+
+/// Finds the same, unless the flag is raised before that.
+#[unsafe(no_mangle)]
+pub extern "C" fn dmf_session_second_gains_until(
+    alloc: Global,
+    session: &mut Handle,
+    arcs: &[u32],
+    gains: &mut [u64],
+    stop: &mut Stop,
+) -> u32
+    ensures answer { OfPresent session.old.timeline (λ s. OrEnded (AnswersSecondGains s arcs.now (length gains.old)) result) }
+    ensures filled { OfPresent session.old.timeline (λ s. result ≡ DMF_OK → AreGains s.network (arcs_of s.network arcs.now) gains.new) }
+    ensures refused { result ≢ DMF_OK → gains.new ≡ gains.old }
+    ensures unchanged { session.new.timeline ≡ session.old.timeline }
+{
+    let mut watch = StopWatch::new(stop.flag());
+    let present = session.plan().present();
+    let code = copy_second_gains(alloc, present, arcs, gains, &mut watch);
+    ended_code(code, watch.has_stopped)
 }
 
 /// What is gained by each of these new arcs.
@@ -46,10 +70,46 @@ pub extern "C" fn dmf_session_new_arc_gains(
     ensures unchanged { session.new.timeline ≡ session.old.timeline }
 {
     let present = session.plan().present();
-    copy_new_arc_gains(alloc, present, tails, heads, capacities, gains)
+    copy_new_arc_gains(
+        alloc,
+        present,
+        tails,
+        heads,
+        capacities,
+        gains,
+        &mut Unwatched,
+    )
 }
 
-fn copy_second_gains(alloc: Global, state: &State, numbers: &[u32], gains: &mut [u64]) -> u32
+/// Finds the same, unless the flag is raised before that.
+#[unsafe(no_mangle)]
+pub extern "C" fn dmf_session_new_arc_gains_until(
+    alloc: Global,
+    session: &mut Handle,
+    tails: &[u32],
+    heads: &[u32],
+    capacities: &[u64],
+    gains: &mut [u64],
+    stop: &mut Stop,
+) -> u32
+    ensures answer { OfPresent session.old.timeline (λ s. OrEnded (AnswersNewArcGains s tails.now heads.now capacities.now (length gains.old)) result) }
+    ensures filled { OfPresent session.old.timeline (λ s. result ≡ DMF_OK → AreGains s.network (open_arcs tails.now heads.now capacities.now) gains.new) }
+    ensures refused { result ≢ DMF_OK → gains.new ≡ gains.old }
+    ensures unchanged { session.new.timeline ≡ session.old.timeline }
+{
+    let mut watch = StopWatch::new(stop.flag());
+    let present = session.plan().present();
+    let code = copy_new_arc_gains(alloc, present, tails, heads, capacities, gains, &mut watch);
+    ended_code(code, watch.has_stopped)
+}
+
+fn copy_second_gains<W: ValuingWatch>(
+    alloc: Global,
+    state: &State,
+    numbers: &[u32],
+    gains: &mut [u64],
+    watch: &mut W,
+) -> u32
     ensures answer { AnswersSecondGains state.now numbers.now (length gains.old) result }
     ensures filled { result ≡ DMF_OK → AreGains state.now.network (arcs_of state.now.network numbers.now) gains.new }
     ensures refused { result ≢ DMF_OK → gains.new ≡ gains.old }
@@ -63,16 +123,17 @@ fn copy_second_gains(alloc: Global, state: &State, numbers: &[u32], gains: &mut 
     let Ok(arcs) = arcs_of(alloc, state, numbers) else {
         return 1;
     };
-    put_gains(alloc, state, &arcs, gains)
+    put_gains(alloc, state, &arcs, gains, watch)
 }
 
-fn copy_new_arc_gains(
+fn copy_new_arc_gains<W: ValuingWatch>(
     alloc: Global,
     state: &State,
     tails: &[u32],
     heads: &[u32],
     capacities: &[u64],
     gains: &mut [u64],
+    watch: &mut W,
 ) -> u32
     ensures answer { AnswersNewArcGains state.now tails.now heads.now capacities.now (length gains.old) result }
     ensures filled { result ≡ DMF_OK → AreGains state.now.network (open_arcs tails.now heads.now capacities.now) gains.new }
@@ -90,11 +151,17 @@ fn copy_new_arc_gains(
     let Ok(arcs) = open_arcs(alloc, tails, heads, capacities) else {
         return 1;
     };
-    put_gains(alloc, state, &arcs, gains)
+    put_gains(alloc, state, &arcs, gains, watch)
 }
 
 /// Writes the gain of each of these arcs, if they are known.
-fn put_gains(alloc: Global, state: &State, arcs: &[Arc], gains: &mut [u64]) -> u32
+fn put_gains<W: ValuingWatch>(
+    alloc: Global,
+    state: &State,
+    arcs: &[Arc],
+    gains: &mut [u64],
+    watch: &mut W,
+) -> u32
     requires { length gains.old ≡ length arcs.now }
     ensures answer { TellsGains state.now arcs.now result }
     ensures filled { result ≡ DMF_OK → AreGains state.now.network arcs.now gains.new }
@@ -104,7 +171,7 @@ fn put_gains(alloc: Global, state: &State, arcs: &[Arc], gains: &mut [u64]) -> u
     if code != 0 {
         return code;
     }
-    match arc_gains(alloc, state, arcs) {
+    match arc_gains_watched(alloc, state, arcs, watch) {
         Ok(found) => {
             gains.copy_from_slice(&found);
             0

@@ -1,9 +1,9 @@
-//! How C ends a solve from another thread.
+//! How C ends a long call from another thread.
 ghost use Rattle.std.specs.Prelude.{◌≡◌, ◌≢◌, ◌∷◌, [], Some, IfOk, IsSome};
 ghost use Rattle.std.specs.Borrow.{sem};
 ghost use Rattle.std.specs.Ptr.{if_non_null};
 ghost use Rattle.dmf_session.specs.Optimal.{HasOptimalPresent};
-ghost use Rattle.dmf_c.specs.Codes.{AnswersUntil, until_code};
+ghost use Rattle.dmf_c.specs.Codes.{AnswersUntil, Ends, until_code};
 ghost use Rattle.dmf_c.specs.Status.{IsOneOf, DMF_OK, DMF_NO_MEMORY, DMF_STOPPED};
 ghost use Rattle.dmf_c.specs.Stop.{owns_stop};
 ghost use Rattle.dmf_c.specs.declared.stop.Stop.{Stop as Owned};
@@ -15,7 +15,7 @@ use crate::stop::{Stop, StopSlot};
 use dmf_session::{Refusal, Reply};
 use std::alloc::{AllocError, Global};
 
-/// The answer of a solve that a flag has ended.
+/// The answer of a call that a flag has ended.
 const STOPPED: u32 = 16;
 
 /// Makes a stop, which is not raised.
@@ -62,7 +62,7 @@ fn made_stop(alloc: Global, flag: Result<Flag, AllocError>) -> Result<StopSlot, 
     Ok(StopSlot::of(stop))
 }
 
-/// Raises the flag, which ends each solve that looks at it.
+/// Raises the flag, which ends each call that looks at it.
 #[unsafe(no_mangle)]
 pub extern "C" fn dmf_stop_raise(stop: &mut Stop) {
     stop.flag().set(true);
@@ -102,6 +102,17 @@ fn until_code(answer: &Result<Reply, Refusal>, has_stopped: bool) -> u32
     match answer {
         Err(Refusal::NoMemory) if has_stopped => STOPPED,
         _ => answer_code(answer),
+    }
+}
+
+/// The number of a call's answer. If the watch has ended the call, that is why memory was said to be refused.
+pub fn ended_code(code: u32, has_stopped: bool) -> u32
+    ensures { Ends code result }
+{
+    if has_stopped && code == 1 {
+        STOPPED
+    } else {
+        code
     }
 }
 

@@ -3,9 +3,9 @@ use Rattle.dmf_c.proofs.Lost.{node-losses}
 use Rattle.dmf_c.proofs.losses.copy_node_losses.Goals as goal
 
 pub returns-in-Ok-clause-filled : goal.returns-in-Ok-clause-filled
-returns-in-Ok-clause-filled c =
+returns-in-Ok-clause-filled g c =
     λ ok. node-losses c.args.state.now.network c.args.nodes.now c.in-Ok.of_nodes.items c.copy_from_slice.new.self (c.copy_from_slice.ensures.after ∙ c.deref.ensures.value)
     c.in-Ok.ensures.one_each c.in-Ok.ensures.losses
 
 pub returns-in-Err-clause-refused : goal.returns-in-Err-clause-refused
-returns-in-Err-clause-refused c = λ not_ok. refl
+returns-in-Err-clause-refused g c = λ not_ok. refl

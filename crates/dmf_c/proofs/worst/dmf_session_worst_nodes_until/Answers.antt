@@ -1,0 +1,18 @@
+use Rattle.std.proofs.Common.{length, rules}
+use Rattle.dmf_c.specs.Losses.{AnswersLosses}
+use Rattle.dmf_c.proofs.Until.{ended-answer, ended-ok, ended-refused}
+use Rattle.dmf_c.proofs.worst.dmf_session_worst_nodes_until.Goals as goal
+
+pub returns-clause-answer : goal.returns-clause-answer
+returns-clause-answer c = record {
+  state = c.present-present.result.now;
+  present = search rules;
+  so = ended-answer (AnswersLosses c.present-present.result.now (length c.args.nodes.now) (length c.args.losses.now))
+      _ _ c.put_worst_nodes-code.ensures.answer c.ended_code.ensures;
+}
+
+pub returns-clause-filled : goal.returns-clause-filled
+returns-clause-filled c = record { state = c.present-present.result.now; present = search rules; so = λ ok. c.put_worst_nodes-code.ensures.filled (ended-ok _ _ c.ended_code.ensures ok) }
+
+pub returns-clause-refused : goal.returns-clause-refused
+returns-clause-refused c = λ not_ok. c.put_worst_nodes-code.ensures.refused (ended-refused _ _ c.ended_code.ensures not_ok)
