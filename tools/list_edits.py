@@ -131,6 +131,17 @@ LIKE_OTHERS = {
             *("problem", "solution"),
         )
     ),
+    *(
+        f"dmf_session_{call}_until (refused)"
+        for call in ("arc_losses", "pair_losses", "worst_nodes", "worst_pairs")
+    ),
+    *(
+        f"dmf_session_{call}_until (unchanged)"
+        for call in (
+            *("node_losses", "pair_losses", "second_gains", "new_arc_gains"),
+            *("worst_arcs", "worst_nodes", "worst_pairs"),
+        )
+    ),
 }
 # A clause which says that the value that a call reads is one of its type.
 INVARIANT = re.compile(

@@ -28,6 +28,8 @@ SMALL = b"p max 2 1\nn 1 s\nn 2 t\na 1 2 3\n"
 SMALL_SOLUTION = b"s 3\nf 1 2 3\n"
 TWO_PIPES = b"p max 3 2\nn 1 s\nn 3 t\na 1 2 7\na 2 3 4\n"
 COMMANDS = b"solve\nundo\nsolve\n"
+# The width and the levels of a problem whose arcs, or nodes, are valued in a second or two.
+SLOW_ARCS, SLOW_NODES = (200, 80), (140, 60)
 # What is changed before each solve after the first, and what the value of each solve that finds a
 # path cannot pass.
 BOUNDED_SESSIONS = {
@@ -251,12 +253,12 @@ def test_asked_vital(small: Path) -> None:
     assert (nodes.returncode, lines_of(nodes.stderr)) == (0, ["reading"])
 
 
-@pytest.mark.seconds(9)
-@pytest.mark.parametrize("option", [[], ["--nodes"]])
-def test_asked_valuing(option: list[str]) -> None:
+@pytest.mark.seconds(15)
+@pytest.mark.parametrize(("option", "size"), [([], SLOW_ARCS), (["--nodes"], SLOW_NODES)])
+def test_asked_valuing(option: list[str], size: tuple[int, int]) -> None:
     """While a run values arcs or nodes, it shows how many of them it has gone through, here for one
     or two seconds. All are those of the problem: its lines of arcs, or each node that they name."""
-    problem = problem_of(64, 30, 3, 100, 1990).encode()
+    problem = problem_of(*size, 3, 100, 1990).encode()
     arcs = [line for line in problem.splitlines() if line.startswith(b"a ")]
     nodes = {node for line in arcs for node in line.split()[1:3]}
     count = len(nodes if option else arcs)
@@ -272,7 +274,7 @@ def test_asked_valuing(option: list[str]) -> None:
 @pytest.mark.seconds(5)
 def test_slow_vital() -> None:
     """On a terminal it shows so after half a second, and erases the line before the answer."""
-    problem = problem_of(64, 30, 3, 100, 1990).encode()
+    problem = problem_of(*SLOW_ARCS, 3, 100, 1990).encode()
     status, answer, told = with_terminal(["vital"], problem)
     assert (status, answer) == (0, piped(["vital"], problem).stdout)
     assert "valuing" in tasks_of(told)
