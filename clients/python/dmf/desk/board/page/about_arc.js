@@ -9,7 +9,7 @@ import { button, make } from "./elements.js";
 import { amounts, chips, facts, inUnits, setting } from "./facts.js";
 import { act, caption, wording } from "./state.js";
 import { now } from "./store.js";
-import { isWorthTold, leftWithout } from "./worth.js";
+import { leftWithout } from "./worth.js";
 
 /**
  * @param {number} node
@@ -36,7 +36,7 @@ export function secondOne(arc) {
   const found = now.seconds?.found.get(arc.number);
   if (found) return found.won ? `+${found.won}` : found.doubled ? "+0" : "too large";
   if (now.seconds && !now.seconds.isOver) return "..";
-  if (!canTry(arc)) return isWorthTold() ? "not tried" : "not known yet";
+  if (!canTry(arc)) return now.isWorthTold ? "not tried" : "not known yet";
   const tried = button("Try it", findSeconds, "link");
   tried.ariaLabel = "Try a second one";
   return tried;

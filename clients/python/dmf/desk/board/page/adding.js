@@ -2,6 +2,7 @@
  * The form that adds an arc from the selected place. It leads to a place that exists, or to a new one if that is said.
  * @typedef {import("./state.js").Place} Place
  */
+import { Requests } from "./asking.js";
 import { form, make } from "./elements.js";
 import { act, ask, noun, units, wording } from "./state.js";
 import { quoted } from "./words.js";
@@ -32,22 +33,22 @@ export function adding(place) {
  * @param {HTMLInputElement} head the field of the name
  */
 function newPlace(head) {
-  const part = make("div", [], { id: "new-place", role: "status" });
-  let turn = 0, said = "";
+  const part = make("div", [], { id: "new-place", role: "status" }), requests = new Requests();
+  let said = "";
   /** @type {HTMLInputElement | null} */
   let box = null;
   const clear = () => {
-    turn += 1;
+    requests.begin();
     said = "";
     box = null;
     part.replaceChildren();
   };
   const look = async () => {
-    const now = turn, text = head.value.trim();
+    const isLatest = requests.sinceNow(), text = head.value.trim();
     if (!text || text === said) return;
     /** @type {{ node: number, near: string[], why: string } | null | undefined} */
     const told = await ask(`end?text=${encodeURIComponent(text)}`, undefined, true);
-    if (now !== turn || text !== head.value.trim() || !told || told.node || told.why) return;
+    if (!isLatest() || text !== head.value.trim() || !told || told.node || told.why) return;
     said = text;
     box = make("input", [], { type: "checkbox", id: "is-new" });
     const near = told.near.map((it) => make("button", it, { type: "button", class: "plain small" }));
@@ -64,8 +65,8 @@ function newPlace(head) {
   };
   head.addEventListener("input", () => {
     clear();
-    const now = turn;
-    setTimeout(() => now === turn && look(), PAUSE);
+    const isLatest = requests.sinceNow();
+    setTimeout(() => isLatest() && look(), PAUSE);
   });
   head.addEventListener("change", look);
   return { part, look, isWanted: () => box !== null && box.checked && said === head.value.trim() };

@@ -3,12 +3,14 @@
  * a bookmark show it again while the board runs.
  * @typedef {import("./state.js").State} State
  */
+import { Requests } from "./asking.js";
 import { choose, theChoice } from "./choice.js";
 import { closeComparison, compare, theComparison } from "./compare.js";
 import { goTo } from "./scenarios.js";
 import { ask, present } from "./state.js";
 
-let isBegun = false, isRestoring = false, told = 0;
+const requests = new Requests();
+let isBegun = false, isRestoring = false;
 
 /**
  * Returns the part of the address after its #. An arc that was added also has its name there, since another arc may get its number.
@@ -30,10 +32,10 @@ async function words() {
 
 /** Makes the address name what is shown now. */
 export async function nameShown() {
-  const turn = (told += 1);
+  const isLatest = requests.begin();
   if (!isBegun || isRestoring) return;
   const now = await words();
-  if (turn !== told || now === (location.hash || "#")) return;
+  if (!isLatest() || now === (location.hash || "#")) return;
   history.pushState(null, "", now);
 }
 

@@ -1,40 +1,23 @@
 /**
  * The arrangement of the picture's labels in the window.
  * @typedef {import("./ink.js").Edges} Edges
- * @typedef {import("./labels.js").Label} Label
- * @typedef {import("./arrows.js").Arrow} Arrow
  */
 import { strokesOf } from "./arrows.js";
+import { thicker } from "./colourings.js";
 import { isFar } from "./ground.js";
 import { Ink } from "./ink.js";
 import { arrange } from "./labels.js";
 import { strokesSeen } from "./painting.js";
 import { covers } from "./room.js";
+import { now } from "./store.js";
 import { scale, seenBox } from "./view.js";
 
 /**
- * What was arranged last.
- * @type {[Label[], Arrow[], number]}
- */
-let latest = [[], [], 1];
-
-/**
- * Arranges labels around what is drawn and what covers it.
- * @param {Label[]} labels
- * @param {Arrow[]} arrows
- * @param {number} by by what factor lines are thicker
- */
-export function arrangeLabels(labels, arrows, by) {
-  latest = [labels, arrows, by];
-  arrangeIn(null);
-}
-
-/**
- * Arranges the same labels again, so that none is cut in a part of the window.
+ * Arranges the labels around what is drawn, so that none is cut in a part of the window.
  * @param {import("./room.js").Room | null} room in pixels from the window's corner, or null for the window beside what covers it
  */
 export function arrangeIn(room) {
-  const [labels, arrows, by] = latest;
+  const { labels, arrows, usual } = now.drawn, by = thicker(usual * scale());
   const { x, y, width, height } = seenBox(), [across, down] = [x * scale(), y * scale()];
   const inPicture = (/** @type {Edges} */ box) =>
     ({ left: box.left + across, right: box.right + across, top: box.top + down, bottom: box.bottom + down });

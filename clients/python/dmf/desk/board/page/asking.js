@@ -5,6 +5,23 @@ const PAUSES = [200, 800, 2000];
 /** The requests that are not repeated, since the board may have carried them out. */
 export const ONCE = ["do", "stop"];
 
+/** Requests of one kind, of which only the latest counts. */
+export class Requests {
+  #latest = 0;
+
+  /** Begins a request. Returns a function that tells whether none was begun since. */
+  begin() {
+    this.#latest += 1;
+    return this.sinceNow();
+  }
+
+  /** Returns a function that tells whether no request was begun since. */
+  sinceNow() {
+    const turn = this.#latest;
+    return () => turn === this.#latest;
+  }
+}
+
 /** The number of requests that were answered so far. */
 let answered = 0;
 

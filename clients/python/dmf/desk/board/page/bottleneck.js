@@ -1,8 +1,8 @@
 /**
  * The bottleneck: the arcs that hold back what can be sent, and what a second one beside each would bring, once that is asked for.
  * @typedef {import("./state.js").State} State
- * @typedef {import("./store.js").Second} Second
- * @typedef {import("./store.js").Seconds} Seconds
+ * @typedef {{ number: number, short: string, doubled: string, won: string, gain: string }} Second
+ * @typedef {{ turn: number, found: Map<number, Second>, isOver: boolean }} Seconds
  */
 import { pick } from "./choice.js";
 import { at, fill, numberCell, onClick } from "./elements.js";

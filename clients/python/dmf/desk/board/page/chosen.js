@@ -1,24 +1,18 @@
 /**
  * What the page says about the selection, and what can be done to it.
- * @typedef {import("./state.js").Arc} Arc
  */
 import { aboutArc, secondOne } from "./about_arc.js";
 import { aboutPlace } from "./about_place.js";
 import { choose, theChoice } from "./choice.js";
 import { at, make, replace } from "./elements.js";
 import { ask, wording } from "./state.js";
+import { now, put } from "./store.js";
 import { leftWithout } from "./worth.js";
-
-/**
- * The arc that is shown, if one is.
- * @type {Arc | null}
- */
-let arc = null;
 
 export async function showChosen() {
   const chosen = theChoice();
   if (!chosen) {
-    arc = null;
+    put("described", null);
     replace(at("what"), [make("p", wording().choose)]);
     return;
   }
@@ -29,8 +23,8 @@ export async function showChosen() {
     choose(null);
     return;
   }
-  arc = chosen.arc ? told : null;
-  replace(at("what"), arc ? aboutArc(arc) : aboutPlace(told));
+  put("described", chosen.arc ? told : null);
+  replace(at("what"), chosen.arc ? aboutArc(told) : aboutPlace(told));
 }
 
 /**
@@ -44,16 +38,16 @@ export async function showClosing() {
   if (!told || !shown || chosen !== theChoice()) return;
   shown.textContent = leftWithout(told);
   if (!chosen.arc) return;
-  arc = told;
+  put("described", told);
   showSecond();
 }
 
 /** Says what a second one beside the selected arc brings, as far as that is known. */
 export function showSecond() {
   const shown = document.getElementById("second");
-  if (!arc || !shown) return;
+  if (!now.described || !shown) return;
   const isHeld = shown.contains(document.activeElement);
-  shown.replaceChildren(secondOne(arc));
+  shown.replaceChildren(secondOne(now.described));
   if (isHeld) at("what").focus();
 }
 

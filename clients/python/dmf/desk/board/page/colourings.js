@@ -5,7 +5,10 @@
  * @typedef {{ words: string, ink: string, filter: string, isDashed?: boolean, has: (mark: Mark) => boolean }} Shade
  *   `ink` is a colour of the style, and `filter` the filter of the table that shows the same arcs, or empty if none does
  * @typedef {{ name: string, words: string, shades: () => Shade[] }} Colouring an arc has the first shade that fits it
+ * @typedef {{ byNumber: Map<number, number>, others: number, last: number }} Losses those of arcs, by their numbers; how many others
+ *   cost something, at most as much as the least of these; and the highest number of an arc when they were found
  */
+import { now } from "./store.js";
 
 /** @type {Shade} */
 const CLOSED = { words: "closed", ink: "unused", filter: "closed", isDashed: true, has: (mark) => mark.state === "c" };
@@ -43,29 +46,10 @@ const CHANGE = [
 ];
 /** The number of shades of loss. */
 const BANDS = 4;
-/**
- * What is lost without each arc, by its number, as far as that is known.
- * @type {Map<number, number>}
- */
-let losses = new Map();
-/** How many of the least losses that cost something are not among them, and the highest number of an arc when they were found. */
-let untold = 0, newest = 0;
-
-/**
- * Sets the numbers of the fourth colouring, which is not offered if there are none.
- * @param {Map<number, number>} found
- * @param {number} others how many others cost something, at most as much as the least of these
- * @param {number} last the highest number of an arc
- */
-export function setLosses(found, others, last) {
-  losses = found;
-  untold = others;
-  newest = last;
-}
 
 /** Returns the shades of loss: equal parts of the largest loss, each named by the losses in it. */
 function worth() {
-  const largest = Math.max(0, ...losses.values());
+  const { byNumber: losses, others, last } = now.losses, largest = Math.max(0, ...losses.values());
   const band = (/** @type {number} */ loss) => Math.ceil(loss / largest * BANDS);
   /** @type {Shade[]} */
   const found = [];
@@ -76,8 +60,8 @@ function worth() {
     found.push({ words: `${low === high ? low : `${low}–${high}`} lost`, ink: `worth-${rank}`, filter: "",
       has: ({ number }) => band(losses.get(number) ?? 0) === rank });
   }
-  const isThere = (/** @type {Mark} */ { number }) => number <= newest;
-  const isTold = (/** @type {Mark} */ mark) => losses.has(mark.number) || !untold && isThere(mark);
+  const isThere = (/** @type {Mark} */ { number }) => number <= last;
+  const isTold = (/** @type {Mark} */ mark) => losses.has(mark.number) || !others && isThere(mark);
   const least = Math.min(...losses.values());
   return [...found, CLOSED,
     { words: "nothing lost", ink: "unused", filter: "", has: isTold },
@@ -93,8 +77,8 @@ const ALL = [
   { name: "worth", words: "what is lost without it", shades: worth },
 ];
 
-/** The colourings that can be chosen now. */
-export const colourings = () => ALL.filter((it) => it.name !== "worth" || losses.size);
+/** The colourings that can be chosen now: the last one only if its numbers are known. */
+export const colourings = () => ALL.filter((it) => it.name !== "worth" || now.losses.byNumber.size);
 
 /**
  * @param {number} number

@@ -5,22 +5,21 @@
  * @typedef {{ arc: string, number: number, node: number, kind: string, first: string, second: string }} Row
  * @typedef {{ turn: number, first: Standing, second: Standing, moved: string, same_limit: boolean, total: number, rows: Row[] }} Comparison
  */
+import { Requests } from "./asking.js";
 import { choose, pick } from "./choice.js";
 import { showDifference } from "./difference.js";
 import { at, cell, field, fill, make, offer, onClick, replace, withArrows } from "./elements.js";
 import { patiently } from "./messages.js";
 import { lower } from "./panel.js";
 import { ask, noun, units, wording } from "./state.js";
-import { now, put } from "./store.js";
+import { now, put, watch } from "./store.js";
 import { grouped, listed, sentence, upper } from "./words.js";
 
 const AT_ONCE = 300;
 /** What the colours of the picture mean, as in its legend. */
 const KINDS = new Map([["more", "more"], ["come", "only in the second"], ["less", "less"], ["gone", "not in the second"],
   ["else", "other capacity or bottleneck"]]);
-/** @type {Row[]} */
-let rows = [];
-let asked = 0;
+const requests = new Requests();
 
 /** The names of the two scenarios that are being compared, or null. */
 export const theComparison = () => now.comparison && [now.comparison.first.name, now.comparison.second.name];
@@ -47,23 +46,22 @@ function outdated() {
  * @param {string} two
  */
 export async function compare(one, two) {
-  const turn = (asked += 1);
+  const isLatest = requests.begin();
   field("compare-one").value = one;
   field("compare-two").value = two;
   const words = `one=${encodeURIComponent(one)}&two=${encodeURIComponent(two)}`;
   /** @type {Comparison | null | undefined} */
   const told = await patiently(ask(`comparison?${words}&first=0&count=${AT_ONCE}`));
-  if (!told || turn !== asked) return;
-  rows = told.rows;
+  if (!told || !isLatest()) return;
   put("comparison", told);
-  showTable();
+  put("differing", told.rows);
   const picture = await patiently(ask(`difference?${words}`));
-  if (picture && turn === asked) draw(picture);
+  if (picture && isLatest()) draw(picture);
 }
 
 /** Closes the comparison. */
 export function closeComparison() {
-  asked += 1;
+  requests.begin();
   at("compared-shown").hidden = true;
   put("comparison", null);
 }
@@ -77,9 +75,10 @@ function limitOf(it) {
  * Returns how many parts of the network differ; besides arcs, what a place gives, takes or lets through.
  * @param {number} count
  */
-const counted = (count) => `${grouped(count)} ${rows.some((row) => row.node) ? "part" : noun()}${count === 1 ? "" : "s"}`;
+const counted = (count) => `${grouped(count)} ${now.differing.some((row) => row.node) ? "part" : noun()}${count === 1 ? "" : "s"}`;
 
-function showTable() {
+/** @param {Row[]} rows */
+function showTable(rows) {
   const told = /** @type {Comparison} */ (now.comparison), { first, second, total } = told;
   at("compared-shown").hidden = false;
   at("compare-old").hidden = true;
@@ -102,17 +101,16 @@ function showTable() {
 
 /** Lists more arcs that differ. */
 async function more() {
-  const told = now.comparison, turn = asked;
+  const told = now.comparison, isLatest = requests.sinceNow();
   if (!told) return;
   const words = `one=${encodeURIComponent(told.first.name)}&two=${encodeURIComponent(told.second.name)}`;
-  const next = await patiently(ask(`comparison?${words}&first=${rows.length}&count=${AT_ONCE}`));
-  if (!next || turn !== asked) return;
+  const next = await patiently(ask(`comparison?${words}&first=${now.differing.length}&count=${AT_ONCE}`));
+  if (!next || !isLatest()) return;
   if (next.turn !== told.turn) {
     outdated();
     return;
   }
-  rows = rows.concat(next.rows);
-  showTable();
+  put("differing", now.differing.concat(next.rows));
 }
 
 /** @param {{ svg: string, reason: string }} told */
@@ -122,6 +120,7 @@ function draw({ svg, reason }) {
 }
 
 export function beginComparing() {
+  watch("differing", showTable);
   at("comparing").addEventListener("submit", async (event) => {
     event.preventDefault();
     await compare(field("compare-one").value, field("compare-two").value);

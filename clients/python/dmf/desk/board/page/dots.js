@@ -1,5 +1,6 @@
 /** Places that are dots, with their names beside them: a square where flow comes from, a pie of what arrives where it goes to. */
 import { at } from "./elements.js";
+import { now, put } from "./store.js";
 
 /**
  * @typedef {import("./ink.js").Edges} Edges
@@ -22,23 +23,20 @@ const ALMOST = 0.96, LED = 8;
 /** @param {Element} part */
 export const isDot = (part) => part.hasAttribute("data-dot");
 
-/** The radius of a place that is neither a source nor a sink. */
-let plain = MOST;
-
 /**
  * Sets the size of dots.
  * @param {number} usual the usual length of lines, in pixels
  */
 export function sizeDots(usual) {
-  plain = Math.min(MOST, Math.max(LEAST, usual / LENGTHS));
-  at("picture").style.setProperty("--plain", String(plain));
+  put("dot", Math.min(MOST, Math.max(LEAST, usual / LENGTHS)));
+  at("picture").style.setProperty("--plain", String(now.dot));
 }
 
 /**
  * Returns the radius of a place, in pixels, with the mark of the selection.
  * @param {Element} part
  */
-export const reachOf = (part) => (part.hasAttribute("data-end") ? END : plain) + (part.matches(".chosen") ? MARK : 0);
+export const reachOf = (part) => (part.hasAttribute("data-end") ? END : now.dot) + (part.matches(".chosen") ? MARK : 0);
 
 /** @param {number} reach */
 const circle = (reach) => `M0-${reach}A${reach} ${reach} 0 1 1 0 ${reach}A${reach} ${reach} 0 1 1 0-${reach}Z`;

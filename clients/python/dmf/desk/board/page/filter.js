@@ -4,56 +4,35 @@
  * @typedef {import("./colourings.js").Mark} Mark
  * @typedef {import("./colourings.js").Shade} Shade
  */
+import { Requests } from "./asking.js";
 import { at, field, onClick } from "./elements.js";
 import { ask, present } from "./state.js";
+import { now, put, watch } from "./store.js";
 
-let asked = 0;
-/**
- * The arcs that match what was typed, or null if nothing was typed or it has no meaning.
- * @type {Set<number> | null}
- */
-let left = null;
-/**
- * The entry of the legend that is the filter, if it cannot be typed.
- * @type {Shade | null}
- */
-let untyped = null;
-/** @type {(() => unknown)[]} */
-const watchers = [];
-
-/**
- * Calls `watcher` after each change of the filter.
- * @param {() => unknown} watcher
- */
-export function watchFilter(watcher) {
-  watchers.push(watcher);
-}
+const requests = new Requests();
 
 export const filterWords = () => field("filter").value.trim();
 
 /** @param {Shade} shade */
-export const isFilter = (shade) => shade === untyped || shade.filter !== "" && shade.filter === filterWords();
+export const isFilter = (shade) => shade === now.shade || shade.filter !== "" && shade.filter === filterWords();
 
 /**
  * Returns true if the filter leaves an arc out.
  * @param {Mark} mark
  */
-export const isFaded = (mark) => (left ? !left.has(mark.number) : untyped ? !untyped.has(mark) : false);
+export const isFaded = (mark) => (now.matches ? !now.matches.has(mark.number) : now.shade ? !now.shade.has(mark) : false);
 
 /** Finds again which arcs match the filter, for example after a step. */
 export async function applyFilter() {
-  const turn = (asked += 1), words = filterWords();
+  const isLatest = requests.begin(), words = filterWords();
   const path = `numbers?filter=${encodeURIComponent(words)}&sort=&first=0&count=${present().arcs}`;
   const told = words ? await ask(path, undefined, true) : null;
-  if (turn !== asked) return;
-  const isOther = Boolean(left || told);
-  left = told ? new Set(told.numbers) : null;
-  if (isOther) for (const watcher of watchers) watcher();
+  if (isLatest() && (now.matches || told)) put("matches", told ? new Set(told.numbers) : null);
 }
 
 /** Makes what was typed the filter. */
 export function typeFilter() {
-  untyped = null;
+  dropUntyped();
   return applyFilter();
 }
 
@@ -63,33 +42,25 @@ export function typeFilter() {
  */
 export async function toggleFilter(shade) {
   const isOn = !isFilter(shade);
-  untyped = isOn && !shade.filter ? shade : null;
+  put("shade", isOn && !shade.filter ? shade : null);
   field("filter").value = isOn ? shade.filter : "";
-  left = null;
-  for (const watcher of watchers) watcher();
+  put("matches", null);
   await applyFilter();
 }
 
-/** Drops a filter that belongs to another colouring. */
-export function dropUntyped() {
-  untyped = null;
-}
-
-/** Whether the button asked for what can be typed. */
-let isAsked = false;
+/** Drops a filter that cannot be typed, as one that belongs to another colouring. */
+export const dropUntyped = () => put("shade", null);
 
 /** Shows what can be typed while the field has the focus, or after the button asked for it. */
 function showHelp() {
-  const isShown = isAsked || document.activeElement === field("filter");
+  const isShown = now.isHelpAsked || document.activeElement === field("filter");
   at("filter-forms").hidden = !isShown;
   at("filter-help").setAttribute("aria-expanded", String(isShown));
 }
 
 export function beginHelp() {
-  onClick("filter-help", () => {
-    isAsked = !isAsked;
-    showHelp();
-  });
+  watch("isHelpAsked", showHelp);
+  onClick("filter-help", () => put("isHelpAsked", !now.isHelpAsked));
   at("filter").addEventListener("focus", showHelp);
   // When a press takes the focus away, all stays in its place until the click has reached what it is meant for.
   document.addEventListener("click", showHelp);

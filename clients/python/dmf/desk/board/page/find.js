@@ -1,10 +1,11 @@
 /** Finds places and arcs by their names, while they are typed. */
+import { Requests } from "./asking.js";
 import { choose } from "./choice.js";
 import { at, button, field, make } from "./elements.js";
 import { ask } from "./state.js";
 import { watch } from "./store.js";
 
-let typed = 0;
+const requests = new Requests();
 /**
  * The search for what was typed last. Enter waits for it.
  * @type {Promise<unknown>}
@@ -12,10 +13,10 @@ let typed = 0;
 let search = Promise.resolve();
 
 async function find() {
-  const turn = (typed += 1), text = field("text").value.trim();
+  const isLatest = requests.begin(), text = field("text").value.trim();
   /** @type {{ found: { label: string, node?: number, number?: number }[], more?: boolean } | null | undefined} */
   const told = text ? await ask(`find?text=${encodeURIComponent(text)}`) : { found: [] };
-  if (turn !== typed) return;
+  if (!isLatest()) return;
   if (!told) {
     // These were found for another text.
     at("found").replaceChildren();
@@ -29,7 +30,7 @@ async function find() {
 
 /** Removes the list once something is selected, which is then described below it. */
 function close() {
-  typed += 1;
+  requests.begin();
   if (at("found").contains(document.activeElement)) at("what").focus();
   at("found").replaceChildren();
 }
@@ -41,9 +42,9 @@ export function beginFinding() {
   });
   at("search").addEventListener("submit", async (event) => {
     event.preventDefault();
-    const turn = typed;
+    const isLatest = requests.sinceNow();
     await search;
     // Typing after Enter begins another search.
-    if (turn === typed) at("found").querySelector("button")?.click();
+    if (isLatest()) at("found").querySelector("button")?.click();
   });
 }

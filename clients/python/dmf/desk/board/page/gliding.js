@@ -5,6 +5,7 @@
  * @typedef {{ box: Box, scale: number }} Overview what it shows, and its pixels per unit
  */
 import { at } from "./elements.js";
+import { now, put } from "./store.js";
 
 /** How much of a large picture is drawn beyond each edge of the window, in parts of the window. */
 export const BEYOND = 0.25;
@@ -12,22 +13,7 @@ export const BEYOND = 0.25;
 const STILL = 120, LARGEST = 8;
 /** How far a size may be from another one that is the same but for rounding. */
 const ALIKE = 1e-6;
-/**
- * The box of a large picture; and the view for which it was drawn.
- * @type {Box | null}
- */
-let whole = null;
-/** @type {Box} */
-let drawn = { x: 0, y: 0, width: 1, height: 1 };
-/**
- * The overview, or null while there is none of what the picture shows now.
- * @type {Overview | null}
- */
-let overview = null;
-let resting = 0, frame = 0, isGliding = false;
-
-/** Returns true if the view is shown by what was drawn for another one. */
-export const isMoving = () => isGliding;
+let resting = 0, frame = 0;
 
 /** Goes on waiting for the view to rest. */
 function goOn() {
@@ -37,13 +23,8 @@ function goOn() {
 
 /** @param {Box | null} box that of the whole picture if it is too large to be drawn for each frame, or else null */
 export function setWhole(box) {
-  whole = box;
+  put("whole", box);
   at("layers").classList.toggle("large", Boolean(box));
-}
-
-/** @param {Overview | null} painted */
-export function setOverview(painted) {
-  overview = painted;
 }
 
 /**
@@ -59,8 +40,9 @@ export const wider = ({ x, y, width, height }, by) =>
  * Returns true if the part of the picture in a view is drawn.
  * @param {Box} seen
  * @param {Box} all
+ * @param {Box} drawn
  */
-function isDrawn(seen, all) {
+function isDrawn(seen, all, drawn) {
   const known = wider(drawn, BEYOND);
   return Math.max(seen.x, all.x) >= known.x && Math.max(seen.y, all.y) >= known.y
     && Math.min(seen.x + seen.width, all.x + all.width) <= known.x + known.width
@@ -72,10 +54,11 @@ function isDrawn(seen, all) {
  * its middle is drawn.
  * @param {Box} seen
  * @param {boolean} isFar
+ * @param {Box} drawn
  */
-function isHelped({ x, y, width, height }, isFar) {
+function isHelped({ x, y, width, height }, isFar, drawn) {
   const known = wider(drawn, BEYOND), [right, down] = [x + width / 2 - known.x, y + height / 2 - known.y];
-  return overview !== null && (isFar || right > 0 && right < known.width && down > 0 && down < known.height);
+  return now.overview !== null && (isFar || right > 0 && right < known.width && down > 0 && down < known.height);
 }
 
 /**
@@ -86,7 +69,7 @@ function isHelped({ x, y, width, height }, isFar) {
  * @param {number} scale the view's pixels per unit
  * @param {number} by how many times as large as it was drawn
  */
-function put(id, box, seen, scale, by) {
+function place(id, box, seen, scale, by) {
   const isSame = Math.abs(by - 1) < ALIKE;
   const [right, down] = [box.x - seen.x, box.y - seen.y].map((far) => (isSame ? Math.round(far * scale) : far * scale));
   at(id).style.setProperty("transform", `translate(${right}px, ${down}px)${isSame ? "" : ` scale(${by})`}`);
@@ -99,28 +82,27 @@ function put(id, box, seen, scale, by) {
  * @param {() => unknown} draw draws the view
  */
 export function glide(seen, scale, draw) {
-  const by = drawn.width / seen.width, isCovered = whole !== null && isDrawn(seen, whole);
+  const { whole, overview, view: { drawnBox: drawn } } = now;
+  if (!whole || !drawn) return false;
+  const by = drawn.width / seen.width, isCovered = isDrawn(seen, whole, drawn);
   // Nearer in size to the overview than to what is drawn.
   const isFar = !isCovered && overview !== null && scale * by < overview.scale;
-  if (!whole || by > LARGEST || !isCovered && !isHelped(seen, isFar)) return false;
+  if (by > LARGEST || !isCovered && !isHelped(seen, isFar, drawn)) return false;
   goOn();
   // Where frames take longer than that, the next move may already wait for the next frame.
   resting = setTimeout(() => { frame = requestAnimationFrame(draw); }, STILL);
-  isGliding = true;
   at("layers").classList.add("gliding");
   at("layers").classList.toggle("far", isFar);
-  put("layers", drawn, seen, scale, by);
+  place("layers", drawn, seen, scale, by);
   if (at("overview").hidden !== isCovered) at("overview").hidden = isCovered;
-  if (overview && !isCovered) put("overview", overview.box, seen, scale, scale / overview.scale);
+  if (overview && !isCovered) place("overview", overview.box, seen, scale, scale / overview.scale);
   return true;
 }
 
-/** @param {Box} seen the view that is drawn from now on */
-export function rest(seen) {
+/** Ends a glide, before the picture is drawn for another view. */
+export function rest() {
   goOn();
-  drawn = seen;
-  if (!isGliding) return;
-  isGliding = false;
+  if (!now.view.isGliding) return;
   at("overview").hidden = true;
   at("layers").classList.remove("gliding", "far");
   at("layers").style.transform = "";

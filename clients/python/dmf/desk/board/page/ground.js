@@ -9,12 +9,14 @@
  *   share: number }} Spot
  *   `end` says whether it is a source or a sink, `weight` how much flows through it, in about, and whether it is at the bottleneck, `told`
  *   what it gives or takes, and `share` which part of what it takes at most arrives
+ * @typedef {{ lines: Line[], usual: number, places: Map<number, Spot> }} Ground the lines, their usual length, and the places, by node
  */
 import { choose, theChoice } from "./choice.js";
 import { markOf, thicker, usualLength } from "./colourings.js";
 import { at } from "./elements.js";
 import { isPicked } from "./many.js";
 import { ask } from "./state.js";
+import { now, put, update } from "./store.js";
 import { freeBox, scale, seenBox } from "./view.js";
 
 /** The look of an arc that does not exist now, and the way of one that flows from its head to its tail. */
@@ -27,24 +29,18 @@ export const NAMES = 0.3;
 const QUIET = { told: "", share: 1 };
 /** The weight of an arc of the bottleneck, more than that of all others at a place. */
 export const OF_LIMIT = 1e6;
-/** @type {Map<number, Spot>} */
-export const places = new Map();
-/** @type {number[][] | null} */
-let ends = null;
-/** The version of the picture to which the positions belong. */
-let known = 0;
+/**
+ * The number of each arc and its ends, and the version of the picture to which the positions of these belong.
+ * @type {{ ends: number[][], version: number } | null}
+ */
+let known = null;
 /**
  * The nodes of the places that were made, which a step may take back.
  * @type {number[]}
  */
 let made = [];
-/**
- * The lines, their usual length, and the arcs and places that the picture in front of them has.
- * @type {{ lines: Line[], usual: number, before: Set<string> }}
- */
-export const ground = { lines: [], usual: 1, before: new Set() };
 
-export const isGround = () => ground.lines.length > 0;
+export const isGround = () => now.ground.lines.length > 0;
 
 /** @param {Line} line */
 export const isOfLimit = (line) => line.mark.state === "l";
@@ -57,21 +53,22 @@ export const isOfLimit = (line) => line.mark.state === "l";
 export async function lookAtGround(isThere, version) {
   at("picture").classList.toggle("grounded", isThere);
   if (!isThere) {
-    ground.lines = [];
+    update("ground", { lines: [] });
     return;
   }
-  if (!ends || known !== version) {
+  const { places } = now.ground;
+  if (known?.version !== version) {
     const told = await ask("ground");
     if (!told) return;
-    known = version;
     const [sources, sinks] = [new Set(told.sources), new Set(told.sinks)];
     const endOf = (/** @type {number} */ node) => (sources.has(node) ? "source" : sinks.has(node) ? "sink" : "");
     told.nodes.forEach((/** @type {number} */ node, /** @type {number} */ place) => places.set(node, { node, name: told.names[place],
       x: told.right[place], y: told.down[place], look: ".", end: endOf(node), weight: 0, ...QUIET }));
-    ends = told.tails.map((/** @type {number} */ tail, /** @type {number} */ place) => [place + 1, tail, told.heads[place]]);
+    const ends = told.tails.map((/** @type {number} */ tail, /** @type {number} */ place) => [place + 1, tail, told.heads[place]]);
+    known = { ends, version };
   }
   const told = await ask("looks");
-  if (!told || !ends) return;
+  if (!told || !known) return;
   for (const node of made) places.delete(node);
   [...places.values()].forEach((place, number) => {
     Object.assign(place, { look: told.places[number], ...QUIET });
@@ -80,15 +77,19 @@ export async function lookAtGround(isThere, version) {
   for (const [node, words, share] of told.ends) Object.assign(places.get(node) ?? {}, { told: words, share });
   made = told.made.map((/** @type {any[]} */ [node]) => node);
   const signs = (/** @type {number} */ place) => ["arcs", "uses", "changes", "widths", "ways"].map((text) => told[text][place]).join("");
-  ground.lines = linesOf([...ends.map((one, place) => [...one, signs(place)]), ...told.added]);
-  weigh();
-  ground.usual = usualLength(ground.lines.map(({ from, to }) => Math.hypot(to[0] - from[0], to[1] - from[1])));
+  const lines = linesOf([...known.ends.map((one, place) => [...one, signs(place)]), ...told.added], places);
+  weigh(lines, places);
+  put("ground", { lines, usual: usualLength(lines.map(({ from, to }) => Math.hypot(to[0] - from[0], to[1] - from[1]))), places });
 }
 
-/** Weighs the places by the arcs there. */
-function weigh() {
+/**
+ * Weighs the places by the arcs there.
+ * @param {Line[]} lines
+ * @param {Map<number, Spot>} places
+ */
+function weigh(lines, places) {
   for (const place of places.values()) place.weight = 0;
-  for (const line of ground.lines) {
+  for (const line of lines) {
     const { width, use } = line.mark;
     for (const node of [line.tail, line.head]) {
       /** @type {Spot} */ (places.get(node)).weight += width * width * use + (isOfLimit(line) ? OF_LIMIT : 0);
@@ -99,8 +100,9 @@ function weigh() {
 /**
  * Returns the lines of arcs; those with the same ends lie side by side.
  * @param {any[][]} arcs their numbers, ends and signs
+ * @param {Map<number, Spot>} places
  */
-function linesOf(arcs) {
+function linesOf(arcs, places) {
   /** @type {Map<string, any[][]>} */
   const beside = new Map();
   for (const arc of arcs) {
@@ -124,7 +126,7 @@ function linesOf(arcs) {
  * @returns {[number, number][]}
  */
 export function endsOf({ from, to, aside }, pixels = scale()) {
-  const by = APART * thicker(ground.usual * pixels) / pixels;
+  const by = APART * thicker(now.ground.usual * pixels) / pixels;
   return [from, to].map(([x, y]) => [x + by * aside[0], y + by * aside[1]]);
 }
 
@@ -135,18 +137,14 @@ export function endsOf({ from, to, aside }, pixels = scale()) {
  * @param {number} y
  */
 export function moveOnGround(node, x, y) {
-  const place = places.get(node);
+  const { lines, places } = now.ground, place = places.get(node);
   if (!place || !isGround()) return;
   Object.assign(place, { x, y });
-  for (const line of ground.lines.filter(({ tail, head }) => tail === node || head === node)) {
+  for (const line of lines.filter(({ tail, head }) => tail === node || head === node)) {
     const [begin, end] = (line.mark.way === BACK ? [line.head, line.tail] : [line.tail, line.head]).map((it) => places.get(it));
     Object.assign(line, { from: [begin?.x, begin?.y], to: [end?.x, end?.y] });
   }
-}
-
-/** @param {Iterable<string>} ids the parts that the picture has */
-export function setBefore(ids) {
-  ground.before = new Set(ids);
+  put("ground", now.ground);
 }
 
 /**
@@ -154,10 +152,10 @@ export function setBefore(ids) {
  * @param {string} like a selector of the picture's parts
  */
 export function groundBox(like) {
-  const { lines } = ground;
+  const { lines, places } = now.ground;
   const drawn = like === ".cut" ? lines.filter(isOfLimit) : like === ".chosen" ? lines.filter(isMarked) : [];
-  const put = !isGround() || like === ".cut" ? [] : [...places.values()].filter((place) => like !== ".chosen" || isMarked(place));
-  const spots = [...drawn.flatMap((line) => [line.from, line.to]), ...put.map((place) => [place.x, place.y])];
+  const dots = !isGround() || like === ".cut" ? [] : [...places.values()].filter((place) => like !== ".chosen" || isMarked(place));
+  const spots = [...drawn.flatMap((line) => [line.from, line.to]), ...dots.map((place) => [place.x, place.y])];
   if (!spots.length) return null;
   let [left, top, right, bottom] = [Infinity, Infinity, -Infinity, -Infinity];
   for (const [x, y] of spots) [left, top, right, bottom] = [Math.min(left, x), Math.min(top, y), Math.max(right, x), Math.max(bottom, y)];
@@ -180,8 +178,8 @@ export function isMarked(it) {
 export function chooseNear(event) {
   const { left, top } = at("picture").getBoundingClientRect(), box = seenBox();
   const [x, y] = [box.x + (event.clientX - left) / scale(), box.y + (event.clientY - top) / scale()];
-  const place = isGround() ? nearest([...places.values()], (it) => Math.hypot(it.x - x, it.y - y)) : null;
-  const line = nearest(ground.lines, (it) => away(it, x, y));
+  const place = isGround() ? nearest([...now.ground.places.values()], (it) => Math.hypot(it.x - x, it.y - y)) : null;
+  const line = nearest(now.ground.lines, (it) => away(it, x, y));
   if (place) choose({ node: place.node });
   else if (line) choose({ arc: line.number });
 }
@@ -219,7 +217,7 @@ function away(line, x, y) {
  * @param {[number, number]} way to the right and downwards
  */
 export function nextPlace(node, [right, down]) {
-  const here = isGround() ? places.get(node) : null;
+  const { places } = now.ground, here = isGround() ? places.get(node) : null;
   let best = null, least = Infinity;
   for (const place of here ? places.values() : []) {
     const [x, y] = [place.x - (here?.x ?? 0), place.y - (here?.y ?? 0)], along = x * right + y * down;
@@ -240,10 +238,10 @@ export function middlePlace() {
   if (isFar() || !isGround()) return null;
   const box = freeBox(), [x, y] = [box.x + box.width / 2, box.y + box.height / 2];
   let best = null, least = Infinity, isWhole = true;
-  for (const place of places.values()) {
+  for (const place of now.ground.places.values()) {
     const far = Math.hypot(place.x - x, place.y - y);
     if (far < least) [best, least] = [place.node, far];
-    isWhole = isWhole && (far > box.width / 4 || far > box.height / 4 || ground.before.has(`node-${place.node}`));
+    isWhole = isWhole && (far > box.width / 4 || far > box.height / 4 || now.drawn.ids.has(`node-${place.node}`));
   }
   return isWhole ? null : best;
 }

@@ -8,7 +8,9 @@ import { showSettings } from "./import_settings.js";
 import { begin, watch } from "./import_state.js";
 import { beginTold, showTold } from "./import_told.js";
 
-for (const watcher of [showFile, showAnswer, showContents, showPreview, showEnds, showSettings, showTold]) watch(watcher);
+for (const watcher of [showFile, showAnswer, showContents, showPreview, showEnds, showSettings, showTold]) {
+  watch("view", (view, before) => view && watcher(view, before));
+}
 beginAnswer();
 beginFile();
 beginEnds();

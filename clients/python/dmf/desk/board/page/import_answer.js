@@ -5,7 +5,7 @@
  */
 import { at, button, form, make, onClick, replace } from "./elements.js";
 import { placed, remedies } from "./import_faults.js";
-import { change, open, present, readAgain, theOptions } from "./import_state.js";
+import { change, now, open, present, readAgain } from "./import_state.js";
 import { grouped, sentence } from "./words.js";
 
 /** What is asked and offered now, as text. */
@@ -45,10 +45,10 @@ function headline(view) {
  */
 function showQuestion(view) {
   const { question, settings, is_stopped: isStopped } = view, offered = question ? [] : remedies(view);
-  const now = JSON.stringify([question, offered, isStopped]), again = isStopped ? [button("Read it again", readAgain, "plain choice")] : [];
+  const all = JSON.stringify([question, offered, isStopped]), again = isStopped ? [button("Read it again", readAgain, "plain choice")] : [];
   at("question").hidden = !question && !offered.length && !isStopped;
-  if (now === asked) return;
-  asked = now;
+  if (all === asked) return;
+  asked = all;
   const choices = (question?.choices ?? []).map(([word, what]) => choice(question?.option ?? "", word, what));
   at("choices").replaceChildren(...choices, ...again, ...offered.flatMap(remedy));
   const setting = settings.find((it) => it.option === question?.option);
@@ -93,7 +93,7 @@ function typed({ option, choices }, label) {
  * @param {string} word
  */
 function settle(option, word) {
-  const before = theOptions()[option];
+  const before = now.options[option];
   at("said").focus();
   return change({ [option]: Array.isArray(before) ? [word] : typeof before === "boolean" ? word !== "" : word });
 }

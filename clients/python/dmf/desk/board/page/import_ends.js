@@ -3,7 +3,7 @@
  * @typedef {import("./import_state.js").View} View
  */
 import { at, button, field, make, replace, replaceAlike } from "./elements.js";
-import { change, theOptions } from "./import_state.js";
+import { change, now } from "./import_state.js";
 import { listed } from "./words.js";
 
 /** @type {{ end: "source" | "sink", assumed: string }[]} */
@@ -25,7 +25,7 @@ export function showEnds({ ends, places, settings }) {
 }
 
 /** @param {string} end */
-const saidOf = (end) => [theOptions()[end] ?? []].flat().map(String);
+const saidOf = (end) => [now.options[end] ?? []].flat().map(String);
 
 /**
  * @param {string} end

@@ -3,9 +3,8 @@
  * @typedef {import("./import_state.js").View} View
  */
 import { at, field } from "./elements.js";
-import { upload } from "./import_state.js";
+import { now, upload } from "./import_state.js";
 import { trouble } from "./messages.js";
-import { isShut } from "./shutting.js";
 import { grouped } from "./words.js";
 
 /** How the names of the other files of a shapefile end. */
@@ -40,7 +39,7 @@ const stemOf = (file) => file.name.replace(/\.[^.]*$/, "");
  * @param {File[]} files
  */
 function take(files) {
-  if (!files.length || isShut()) return;
+  if (!files.length || now.shut.length) return;
   const large = files.find((file) => file.size > MOST_MEGABYTES * MEGABYTE);
   const parts = files.filter((file) => PART.test(file.name)), [lines, ...more] = files.filter((file) => !parts.includes(file));
   if (large) {

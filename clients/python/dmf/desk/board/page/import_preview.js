@@ -7,7 +7,7 @@
 import { at, make, replace, replaceAlike } from "./elements.js";
 import { saidBy, showFaults } from "./import_faults.js";
 import { fillMenu } from "./import_menus.js";
-import { change, present, theOptions } from "./import_state.js";
+import { change, now, present } from "./import_state.js";
 import { news } from "./messages.js";
 
 const IGNORE = "ignore";
@@ -97,8 +97,8 @@ async function choose(place, role) {
   const column = present().columns.find((it) => it.at === place);
   if (!column) return;
   await change(optionsWith(column, role));
-  const now = present().columns.find((it) => it.at === place), [, word] = present().roles.find(([it]) => it === now?.role) ?? ["", ""];
-  news(!role && now?.title === column.title && now.role === column.role && word
+  const taken = present().columns.find((it) => it.at === place), [, word] = present().roles.find(([it]) => it === taken?.role) ?? ["", ""];
+  news(!role && taken?.title === column.title && taken.role === column.role && word
     ? `${column.title || `Column ${place + 1}`} is still taken for “${word}”. To take it for nothing, leave it out.` : "");
 }
 
@@ -108,7 +108,7 @@ async function choose(place, role) {
  * @returns {Options}
  */
 function optionsWith({ option }, role) {
-  const options = theOptions(), others = [options[IGNORE] ?? []].flat().map(String).filter((it) => it !== option);
+  const { options } = now, others = [options[IGNORE] ?? []].flat().map(String).filter((it) => it !== option);
   const freed = Object.entries(options).filter(([name, value]) => present().roles.some(([it]) => it === name) && value === option);
   return {
     ...Object.fromEntries(freed.map(([name]) => [name, ""])),

@@ -6,7 +6,7 @@
  */
 import { at, make, replace } from "./elements.js";
 import { fillMenu } from "./import_menus.js";
-import { change, theOptions } from "./import_state.js";
+import { change, now } from "./import_state.js";
 
 /**
  * The labels with their controls, by option. They stay, so that a control keeps the focus.
@@ -26,7 +26,7 @@ export function showSettings({ settings, file }, before) {
 
 /** @param {Setting} setting */
 function kindOf({ option, choices }) {
-  return choices?.length ? "menu" : typeof theOptions()[option] === "boolean" ? "checkbox" : "text";
+  return choices?.length ? "menu" : typeof now.options[option] === "boolean" ? "checkbox" : "text";
 }
 
 /**
@@ -34,7 +34,7 @@ function kindOf({ option, choices }) {
  * @param {boolean} isNew whether another file is shown, for which nothing is typed yet
  */
 function labelOf(setting, isNew) {
-  const kind = kindOf(setting), known = shown.get(setting.option), value = theOptions()[setting.option] ?? "";
+  const kind = kindOf(setting), known = shown.get(setting.option), value = now.options[setting.option] ?? "";
   const { label, words, control } = known?.kind === kind ? known : newLabel(setting.option, kind);
   words.data = ` ${setting.label} `;
   if (control instanceof HTMLSelectElement) {

@@ -1,5 +1,6 @@
 /**
- * The latest view of the import, the options as the page shows them, and the requests to the board, which are made one after another.
+ * The store of the import's page: the latest view, and the options as the page shows them; and the requests to the board, which are made
+ * one after another.
  * @typedef {Record<string, string | boolean | string[]>} Options
  * @typedef {{ option: string, label: string, choices?: [string, string][] }} Setting
  * @typedef {{ rows: string[][], lines: number[], header: number | null, left_out: number[] }} Preview
@@ -12,51 +13,31 @@
  *   settings: Setting[], contents: Content[], preview: Preview | null, columns: Column[], roles: [string, string][], told: string[],
  *   question: Question | null, faults: Fault[], more_faults: number, places: string[], ends: Ends,
  *   answer: { said: string, rows: number } | null, command: string, turn: number }} View
+ * @typedef {object} Store
+ * @property {View | null} view the latest view, or null before there is one
+ * @property {Options} options those of the view, and what was chosen since
+ * @property {HTMLElement[]} shut the controls that are disabled while the board cannot be reached
  */
 import { heard } from "./asking.js";
 import { at, button, onClick } from "./elements.js";
 import { heedLeaving, live } from "./live.js";
 import { news, patiently, trouble } from "./messages.js";
-import { isShut, openControls, shutControls } from "./shutting.js";
+import { newStore } from "./new_store.js";
+import { openControls, shutControls } from "./shutting.js";
 import { sentence } from "./words.js";
 
-/** @type {View | null} */
-let view = null;
+export const { now, watch, put } = newStore(/** @type {Store} */ ({ view: null, options: {}, shut: [] }));
 /**
- * The options of the view, and what was chosen since.
- * @type {Options}
+ * Whether something was chosen that no request has sent yet; how many requests have not ended, and the end of those so far; what ends the
+ * sending of a file; and what ends the connection.
+ * @type {{ isChanged: boolean, pending: number, last: Promise<unknown>, sending: AbortController | null, letGo: () => void }}
  */
-let options = {};
-/** Whether something was chosen that no request has sent yet. */
-let isChanged = false;
-let pending = 0;
-/**
- * What ends the sending of a file.
- * @type {AbortController | null}
- */
-let sending = null;
-/**
- * The end of the requests so far.
- * @type {Promise<unknown>}
- */
-let last = Promise.resolve();
-/** @type {((view: View, before: View | null) => unknown)[]} */
-const watchers = [];
+const activity = { isChanged: false, pending: 0, last: Promise.resolve(), sending: null, letGo: () => undefined };
 
 /** Returns the present view. Throws an error before there is one. */
 export function present() {
-  if (!view) throw new Error("nothing is told yet");
-  return view;
-}
-
-export const theOptions = () => options;
-
-/**
- * Calls `watcher` with each new view and the one before it.
- * @param {(view: View, before: View | null) => unknown} watcher
- */
-export function watch(watcher) {
-  watchers.push(watcher);
+  if (!now.view) throw new Error("nothing is told yet");
+  return now.view;
 }
 
 /**
@@ -65,29 +46,29 @@ export function watch(watcher) {
  */
 function inTurn(task) {
   const note = (/** @type {number} */ step) => {
-    pending += step;
-    at("main").setAttribute("aria-busy", String(pending > 0));
+    activity.pending += step;
+    at("main").setAttribute("aria-busy", String(activity.pending > 0));
   };
   note(1);
-  last = patiently(last.then(task, task)).finally(() => note(-1));
-  return last;
+  activity.last = patiently(activity.last.then(task, task)).finally(() => note(-1));
+  return activity.last;
 }
 
 /**
  * Sets options, and sends all of them. What is chosen before they are sent goes with them.
  * @param {Options} words
  */
-export function change(words) {
-  options = { ...options, ...words };
-  if (isChanged) return last;
-  isChanged = true;
-  return inTurn(send);
+export async function change(words) {
+  put("options", { ...now.options, ...words });
+  if (!activity.isChanged) inTurn(send);
+  activity.isChanged = true;
+  await activity.last;
 }
 
 async function send() {
-  if (!isChanged || isShut()) return;
-  isChanged = false;
-  await hear("import", { options });
+  if (!activity.isChanged || now.shut.length) return;
+  activity.isChanged = false;
+  await hear("import", { options: now.options });
 }
 
 /** Sends the options once more, so that what was stopped is read again. */
@@ -99,7 +80,7 @@ export const readAgain = () => change({});
  */
 export const upload = (files) => inTurn(async () => {
   const main = files[files.length - 1], of = `&of=${encodeURIComponent(main.name)}`;
-  const { signal } = sending = new AbortController();
+  const { signal } = activity.sending = new AbortController();
   for (const file of files) {
     news(`Reading ${file.name} ..`);
     const path = `upload?name=${encodeURIComponent(file.name)}${file === main ? "" : of}`;
@@ -107,15 +88,15 @@ export const upload = (files) => inTurn(async () => {
     news("");
     if (!isHeard) break;
   }
-  sending = null;
+  activity.sending = null;
   // The last piece may have arrived all the same: the board knows.
   if (signal.aborted) await hear("import");
 });
 
 /** Stops what the board reads, or else the file that is still being sent, of which nothing is kept. */
 async function stop() {
-  const sent = sending, reply = await heard("stop", {});
-  if (sent === sending && !reply?.told.is_stopped) sent?.abort();
+  const sent = activity.sending, reply = await heard("stop", {});
+  if (sent === activity.sending && !reply?.told.is_stopped) sent?.abort();
 }
 
 /** Goes on to the board. */
@@ -139,7 +120,7 @@ async function hear(path, content, isFollowed = false, signal) {
   if (signal?.aborted) return false;
   if (!reply) {
     // Once the board can be reached again, it is sent again.
-    isChanged = isChanged || path === "import" && content !== undefined;
+    activity.isChanged = activity.isChanged || path === "import" && content !== undefined;
     lost();
     return false;
   }
@@ -148,8 +129,8 @@ async function hear(path, content, isFollowed = false, signal) {
     return false;
   }
   trouble("");
-  if (path.startsWith("upload")) isChanged = false;
-  if (!isChanged && !isFollowed) show(reply.told);
+  if (path.startsWith("upload")) activity.isChanged = false;
+  if (!activity.isChanged && !isFollowed) show(reply.told);
   return true;
 }
 
@@ -165,23 +146,21 @@ async function refused(status, error) {
   }
   trouble(sentence(error));
   // Menus show what holds; what was typed stays in its field.
-  if (view && !isChanged) show(view);
+  if (now.view && !activity.isChanged) show(now.view);
 }
 
 /** @param {View} told */
 function show(told) {
-  const before = view;
-  view = told;
-  options = { ...told.options };
-  for (const watcher of watchers) watcher(told, before);
+  put("options", told.options);
+  put("view", told);
 }
 
 /** Says that the board cannot be reached, and disables everything except the button that tries again. */
 function lost() {
-  if (isShut()) return;
-  letGo();
-  shutControls();
-  const file = view?.file?.name ?? "FILE";
+  if (now.shut.length) return;
+  activity.letGo();
+  put("shut", shutControls());
+  const file = now.view?.file?.name ?? "FILE";
   trouble(`The board does not answer. Where it has ended, start it again with “dmf-board --import ${file}”, and open the address that it `
     + "tells. What you typed stays here.", button("Look again", lookAgain));
 }
@@ -189,24 +168,25 @@ function lost() {
 /** Goes on if the board can be reached again, with what was chosen meanwhile. */
 async function lookAgain() {
   if (!await heard("import")) return;
-  openControls();
+  openControls(now.shut);
+  put("shut", []);
   trouble("");
-  letGo = follow();
-  await inTurn(() => (isChanged ? send() : hear("import")));
+  activity.letGo = follow();
+  await inTurn(() => (activity.isChanged ? send() : hear("import")));
 }
 
 /** Shows what another tab has changed. */
 const renew = () => inTurn(async () => {
-  if (!isChanged && !isShut()) await hear("import");
+  if (!activity.isChanged && !now.shut.length) await hear("import");
 });
 
 const follow = () => live({
-  heard: (turn) => turn !== view?.turn && renew(),
+  heard: (turn) => turn !== now.view?.turn && renew(),
   broke: renew,
   lost,
 });
 
-let letGo = follow();
+activity.letGo = follow();
 heedLeaving();
 
 /** Shows the page for the first time. */

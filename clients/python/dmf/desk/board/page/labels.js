@@ -21,6 +21,7 @@ import { isDot, lead, leadFrom } from "./dots.js";
 import { pointsOf } from "./ink.js";
 import { arcSpot, endSpot, leaderBoxes } from "./leading.js";
 import { freeSpot, sight } from "./spots.js";
+import { now as shown, put } from "./store.js";
 /** The bounds of the letters' height, in pixels; and the height of a line for that. */
 const LEAST = 11.2, MOST = 14, LINE = 1.25;
 /** The rank up to which labels are shown even if they have to lie on lines: those of the source, the sink and the selection; and the one
@@ -132,14 +133,8 @@ const larger = ({ size }, scale) => Math.min(MOST, Math.max(LEAST, size * scale)
 const sizeOf = (label, scale) =>
   [label.width * scale * larger(label, scale) / 2, label.height * scale * larger(label, scale) / 2];
 
-/**
- * What the labels lie on since they were arranged last.
- * @type {Taken | null}
- */
-let present = null;
-
 /** Returns what the labels lie on, as an index to which others can be added, or null before they are arranged. */
-export const takenNow = () => present && { ...present, taken: present.taken.copy(), places: present.places.copy() };
+export const takenNow = () => shown.taken && { ...shown.taken, taken: shown.taken.taken.copy(), places: shown.taken.places.copy() };
 
 /** @param {Label} label */
 const isDotOfEnd = ({ oval, rank: importance }) => Boolean(oval?.isDot) && importance <= NEEDED;
@@ -163,7 +158,7 @@ function take(label, spot, root, { now, scale }) {
     now.taken.add(it);
     now.names.add(it);
   }
-  put(label, larger(label, scale), spot && { x: spot[0] / scale, y: spot[1] / scale, isIn: spot[2] });
+  showLabel(label, larger(label, scale), spot && { x: spot[0] / scale, y: spot[1] / scale, isIn: spot[2] });
   return box && sight(box, now) === "seen" ? box : null;
 }
 
@@ -220,7 +215,7 @@ function placeArc(label, work) {
  */
 export function arrange(labels, scale, ground) {
   const [taken, places, names] = [new Boxes(), new Boxes(), new Boxes()], now = { taken, places, names, ...ground };
-  present = now;
+  put("taken", now);
   const ovals = new Map(labels.map((label) => {
     const { oval } = label, [aside, above] = reaches(label, scale), box = oval && edges(oval.x * scale, oval.y * scale, aside, above);
     for (const boxes of box ? [taken, places, ...isDotOfEnd(label) ? [names] : []] : []) boxes.add(/** @type {Edges} */ (box));
@@ -241,7 +236,7 @@ export function arrange(labels, scale, ground) {
  * @param {number} by the factor by which its letters are larger
  * @param {{ x: number, y: number, isIn: boolean } | undefined} spot
  */
-function put({ part, texts, x, y, isBrief }, by, spot) {
+function showLabel({ part, texts, x, y, isBrief }, by, spot) {
   part.classList.toggle("unlabelled", !spot);
   part.classList.toggle("brief", Boolean(isBrief));
   part.classList.toggle("spread", Boolean(spot) && !spot?.isIn);

@@ -1,48 +1,25 @@
 /**
  * The legend: what the picture is coloured by, and what each colour means. Each entry is a filter: a click fades all else in the picture,
  * and the table lists its arcs.
- * @typedef {import("./colourings.js").Mark} Mark
  */
-import { colourings, setLosses, shadeOf } from "./colourings.js";
+import { colourings, shadeOf } from "./colourings.js";
 import { at, field, make, offer, replace } from "./elements.js";
-import { dropUntyped, isFilter, toggleFilter, watchFilter } from "./filter.js";
+import { dropUntyped, isFilter, toggleFilter } from "./filter.js";
 import { wording } from "./state.js";
+import { now, put } from "./store.js";
 import { grouped } from "./words.js";
 
-let chosen = "use";
-/**
- * The marks of the arcs that are shown, by their numbers, and whether these are all arcs.
- * @type {{ marks: Map<number, Mark>, isAll: boolean }}
- */
-const shown = { marks: new Map(), isAll: false };
-/** @type {() => unknown} */
-let changed = () => undefined;
-
-export const shades = () => (colourings().find((it) => it.name === chosen) ?? colourings()[0]).shades();
-
-/** @param {number} number */
-export const markAt = (number) => shown.marks.get(number);
-
-/**
- * Takes what the board says about the looks of arcs.
- * @param {Mark[]} marks
- * @param {boolean} isAll whether these are all arcs
- */
-export function setMarks(marks, isAll) {
-  shown.marks = new Map(marks.map((mark) => [mark.number, mark]));
-  shown.isAll = isAll;
-  showLegend();
-}
+export const shades = () => (colourings().find((it) => it.name === now.colouring) ?? colourings()[0]).shades();
 
 /** Shows the entries that have arcs, each with their number if all are known. */
-function showLegend() {
+export function showLegend() {
   offer("colouring", colourings().map((it) => [it.name, it.words]), "use");
-  const now = shades(), counts = new Map(now.map((shade) => [shade, 0]));
-  for (const mark of shown.marks.values()) counts.set(shadeOf(now, mark), (counts.get(shadeOf(now, mark)) ?? 0) + 1);
-  replace(at("shades"), now.filter((shade) => counts.get(shade) || isFilter(shade)).map((shade) => {
+  const entries = shades(), counts = new Map(entries.map((shade) => [shade, 0]));
+  for (const mark of now.marks.byNumber.values()) counts.set(shadeOf(entries, mark), (counts.get(shadeOf(entries, mark)) ?? 0) + 1);
+  replace(at("shades"), entries.filter((shade) => counts.get(shade) || isFilter(shade)).map((shade) => {
     const swatch = make("i", [], { class: shade.isDashed ? "dashed" : "" });
     swatch.style.setProperty("--swatch", `var(--${shade.ink})`);
-    const count = shown.isAll ? [make("em", grouped(counts.get(shade) ?? 0))] : [];
+    const count = now.marks.isAll ? [make("em", grouped(counts.get(shade) ?? 0))] : [];
     const looks = { type: "button", class: "entry", "aria-pressed": String(isFilter(shade)) };
     const entry = make("button", [swatch, `${wording().shades[shade.words] ?? shade.words} `, ...count], looks);
     entry.addEventListener("click", () => toggleFilter(shade));
@@ -50,29 +27,19 @@ function showLegend() {
   }));
 }
 
-/**
- * Offers the colouring by what is lost without each arc, or removes it if that is not known.
- * @param {Map<number, number>} losses
- * @param {number} others how many others cost something
- * @param {number} last the highest number of an arc
- */
-export function colourByLoss(losses, others, last) {
-  setLosses(losses, others, last);
-  if (chosen === "worth" && !losses.size) chosen = "use";
+/** Shows the entries of the colouring, and drops a filter that belongs to another one. */
+export function showColouring() {
   dropUntyped();
   showLegend();
-  changed();
 }
 
-/** @param {() => unknown} recolour is called when the colours change */
-export function beginLegend(recolour) {
-  changed = recolour;
-  watchFilter(showLegend);
-  watchFilter(recolour);
-  at("colouring").addEventListener("change", () => {
-    chosen = field("colouring").value;
-    dropUntyped();
-    showLegend();
-    recolour();
-  });
+/**
+ * Shows the entries again when losses are known. If there are none, the picture is not coloured by them.
+ * @param {import("./colourings.js").Losses} losses
+ */
+export function followLosses({ byNumber }) {
+  if (now.colouring === "worth" && !byNumber.size) put("colouring", "use");
+  else showColouring();
 }
+
+export const beginLegend = () => at("colouring").addEventListener("change", () => put("colouring", field("colouring").value));

@@ -3,6 +3,7 @@
  * @typedef {import("./state.js").State} State
  * @typedef {{ open: number[], closed: number[], flow: string, capacity: string }} Many
  */
+import { Requests } from "./asking.js";
 import { at, button, form, make, replace } from "./elements.js";
 import { trouble } from "./messages.js";
 import { act, ask, units, wording } from "./state.js";
@@ -10,7 +11,7 @@ import { now, put } from "./store.js";
 
 /** How many arcs can be selected at once, as in the board. */
 const MOST = 100_000;
-let asked = 0;
+const requests = new Requests();
 
 export const isPicked = (/** @type {number} */ number) => now.picked.has(number);
 export const pickedCount = () => now.picked.size;
@@ -47,14 +48,14 @@ export const toggle = (number) => pickThese(
 
 /** Shows which of the selected arcs are open and closed, and what can be done to them. */
 async function showMany() {
-  const turn = (asked += 1);
+  const isLatest = requests.begin();
   if (!now.picked.size) {
     at("many").replaceChildren();
     return;
   }
   /** @type {Many | null | undefined} */
   const told = await ask("many", { arcs: [...now.picked] });
-  if (!told || turn !== asked) return;
+  if (!told || !isLatest()) return;
   const there = new Set([...told.open, ...told.closed]);
   if (there.size !== now.picked.size || ![...there].every(isPicked)) put("picked", there);
   replace(at("many"), there.size ? about(told) : []);

@@ -3,40 +3,29 @@
  * @typedef {import("./gestures.js").Held} Held
  * @typedef {{ node: number, name: string, x: number, y: number, to: (x: number, y: number) => void }} Carried a place that is being moved,
  *   where it was, and a function that shows it elsewhere
+ * @typedef {{ node: number, name: string, x: number, y: number }} Move where a place was
  */
 import { theChoice } from "./choice.js";
 import { partOf, parts } from "./drawing.js";
 import { at, onClick } from "./elements.js";
-import { dropHeld, setGrab } from "./gestures.js";
+import { dropHeld } from "./gestures.js";
 import { isFar, moveOnGround } from "./ground.js";
 import { news } from "./messages.js";
 import { paint } from "./painting.js";
 import { showPicture } from "./picture.js";
-import { ask, watchPicture } from "./state.js";
-import { now, watch } from "./store.js";
+import { ask } from "./state.js";
+import { now, put, watch } from "./store.js";
 import { reveal, scale } from "./view.js";
 import { sentence } from "./words.js";
 
 /** How far a key moves a place, and with Shift, in pixels; and how long keys rest before the board is told, in milliseconds. */
 const STEP = 20, FINE = 2, REST = 400;
 /**
- * Where places were before they were moved on this page, the latest last.
- * @type {{ node: number, name: string, x: number, y: number }[]}
+ * Where places lie that were put there, until the board's picture shows it; the latest move that was sent; and the place that keys move,
+ * and where it lies now.
+ * @type {{ flying: Map<number, number[]>, latest: Promise<void>, keyed: { place: Carried, x: number, y: number } | null, resting: number }}
  */
-const before = [];
-/**
- * Where places lie that were put there, until the board's picture shows it.
- * @type {Map<number, number[]>}
- */
-const flying = new Map();
-/** The latest move that was sent. */
-let latest = Promise.resolve();
-/**
- * The place that keys move, and where it lies now.
- * @type {{ place: Carried, x: number, y: number } | null}
- */
-let keyed = null;
-let resting = 0;
+const activity = { flying: new Map(), latest: Promise.resolve(), keyed: null, resting: 0 };
 
 /** @param {string | null} text the numbers in a path or in a list of points */
 const pointsIn = (text) => {
@@ -81,7 +70,7 @@ function bending(part, node) {
  */
 function carry(part) {
   const oval = part.querySelector("ellipse.inner"), node = Number(part.id.slice("node-".length));
-  const drawn = ["cx", "cy"].map((name) => Number(oval?.getAttribute(name))), [x, y] = flying.get(node) ?? drawn;
+  const drawn = ["cx", "cy"].map((name) => Number(oval?.getAttribute(name))), [x, y] = activity.flying.get(node) ?? drawn;
   const lines = parts().filter((it) => it.dataset.ends?.split(" ").includes(String(node))).map((it) => bending(it, node));
   return { node, name: part.querySelector("text")?.textContent ?? "", x, y, to: (toX, toY) => {
     const [right, down] = [toX - drawn[0], toY - drawn[1]];
@@ -102,44 +91,46 @@ function carry(part) {
  */
 async function send(place, x, y, isUndone) {
   const [right, down] = [x, y].map((it) => Math.round(100 * it));
-  flying.set(place.node, [x, y]);
+  activity.flying.set(place.node, [x, y]);
   const told = await ask("move", { node: place.node, right, down, form: now.drawing.form });
   if (!told) {
-    flying.delete(place.node);
+    activity.flying.delete(place.node);
     place.to(place.x, place.y);
     return;
   }
-  if (!isUndone) before.push({ node: place.node, name: place.name, x: place.x, y: place.y });
+  if (!isUndone) put("moves", [...now.moves, { node: place.node, name: place.name, x: place.x, y: place.y }]);
   const { kept_in: file, why_not: why } = told, kept = !file ? "" : why ? ` ${file} does not keep it: ${why}.` : ` ${file} keeps it.`;
   news(`${place.name} ${isUndone ? "lies where it was before" : "was moved"}.${kept}`);
   showUndo();
   await showPicture();
-  flying.delete(place.node);
+  activity.flying.delete(place.node);
 }
 
 /** @type {typeof send} */
-function put(...move) {
-  latest = send(...move);
-  return latest;
+function putPlace(...move) {
+  activity.latest = send(...move);
+  return activity.latest;
 }
 
 function showUndo() {
-  at("undo-move").hidden = !before.length;
+  at("undo-move").hidden = !now.moves.length;
 }
 
 /** Takes the latest move on this page back. */
 export async function undoMove() {
-  await (putKeyed() ?? latest);
-  const last = before.pop();
-  if (last) await put({ ...last, to: () => undefined }, last.x, last.y, true);
+  await (putKeyed() ?? activity.latest);
+  const last = now.moves.at(-1);
+  if (!last) return;
+  put("moves", now.moves.slice(0, -1));
+  await putPlace({ ...last, to: () => undefined }, last.x, last.y, true);
 }
 
 /** Tells the board where keys have moved a place to. */
 function putKeyed() {
-  clearTimeout(resting);
-  const moved = keyed;
-  keyed = null;
-  return moved && put(moved.place, moved.x, moved.y, false);
+  clearTimeout(activity.resting);
+  const moved = activity.keyed;
+  activity.keyed = null;
+  return moved && putPlace(moved.place, moved.x, moved.y, false);
 }
 
 /**
@@ -154,13 +145,13 @@ export function moveByKey(part, [right, down], isFine) {
     news(sentence(fixed));
     return;
   }
-  if (keyed && keyed.place.node !== Number(part.id.slice("node-".length))) putKeyed();
-  const { place, x, y } = keyed ?? { place: carry(part), x: 0, y: 0 }, by = (isFine ? FINE : STEP) / scale();
-  keyed = keyed ? { place, x: x + by * right, y: y + by * down } : { place, x: place.x + by * right, y: place.y + by * down };
-  place.to(keyed.x, keyed.y);
+  if (activity.keyed && activity.keyed.place.node !== Number(part.id.slice("node-".length))) putKeyed();
+  const place = activity.keyed?.place ?? carry(part), { x, y } = activity.keyed ?? place, by = (isFine ? FINE : STEP) / scale();
+  activity.keyed = { place, x: x + by * right, y: y + by * down };
+  place.to(activity.keyed.x, activity.keyed.y);
   reveal(part.getBBox());
-  clearTimeout(resting);
-  resting = setTimeout(putKeyed, REST);
+  clearTimeout(activity.resting);
+  activity.resting = setTimeout(putKeyed, REST);
 }
 
 /**
@@ -168,7 +159,7 @@ export function moveByKey(part, [right, down], isFine) {
  * @param {PointerEvent} event
  * @returns {Held | null}
  */
-function grab(event) {
+export function grab(event) {
   const on = event.target instanceof Element && !event.target.matches(".spread > text") ? event.target : null;
   const part = /** @type {SVGElement | null} */ (on?.closest("#picture g.node") ?? null);
   if (!part || now.drawing.fixed || isFar() || event.pointerType === "touch" && part !== partOf(theChoice())) return null;
@@ -180,21 +171,20 @@ function grab(event) {
       [x, y] = [place.x + right / scale(), place.y + down / scale()];
       place.to(x, y);
     },
-    put: () => put(place, x, y, false),
+    put: () => putPlace(place, x, y, false),
     drop: () => place.to(place.x, place.y),
   };
 }
 
 export function beginMoving() {
-  setGrab(grab);
   watch("drawing", ({ fixed, layout }, old) => {
     at("picture").classList.toggle("movable", !fixed);
     // In another layout places lie elsewhere.
-    if (layout !== old.layout) before.length = 0;
+    if (layout !== old.layout) put("moves", []);
     showUndo();
   });
-  watchPicture((version) => {
-    if (!flying.size && version !== now.drawing.version) showPicture();
+  watch("newest", ({ picture }) => {
+    if (!activity.flying.size && picture !== now.drawing.version) showPicture();
   });
   onClick("undo-move", undoMove);
   document.addEventListener("keydown", (event) => {

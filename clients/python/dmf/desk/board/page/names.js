@@ -10,9 +10,10 @@
 import { edges, isApart } from "./boxes.js";
 import { APART, AROUND } from "./candidates.js";
 import { at } from "./elements.js";
-import { ground, isMarked, NAMES, OF_LIMIT } from "./ground.js";
+import { isMarked, NAMES, OF_LIMIT } from "./ground.js";
 import { takenNow } from "./labels.js";
 import { freeSpot } from "./spots.js";
+import { now } from "./store.js";
 import { scale } from "./view.js";
 
 /** The most names; and the size of letters, in pixels, and the height of a line for that. */
@@ -22,7 +23,7 @@ const MOST_NAMES = 400, LETTERS = 12, LINE = 1.25;
 const FIELD = 110, SPARSE = 16, ROOMY = 30;
 
 /** Returns true if places lie far enough apart for names. Otherwise only ends, what is selected and the bottleneck have names. */
-export const isSparse = () => ground.usual * scale() >= SPARSE;
+export const isSparse = () => now.ground.usual * scale() >= SPARSE;
 
 /** @param {Spot} place */
 const isNeeded = (place) => place.end !== "" || isMarked(place);
@@ -78,7 +79,7 @@ const linesOf = ({ name, end, told, share }) => [[name, end !== "", false], ...(
 export function paintNames(pen, seen, colour, reach) {
   const taken = takenNow();
   if (!taken) return;
-  const by = scale(), isRoomy = by >= NAMES || ground.usual * by >= ROOMY;
+  const by = scale(), isRoomy = by >= NAMES || now.ground.usual * by >= ROOMY;
   const candidates = isSparse() ? seen : seen.filter((place) => importance(place) >= OF_LIMIT);
   const boxes = new Map(candidates.map((place) => {
     const [x, y, far] = [place.x * by, place.y * by, reach(place)];

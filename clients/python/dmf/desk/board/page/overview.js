@@ -1,8 +1,9 @@
 /** The overview: a whole map as a small picture, which lies around what is drawn while the view moves. */
 import { at } from "./elements.js";
-import { setOverview, wider } from "./gliding.js";
+import { wider } from "./gliding.js";
 import { groundBox } from "./ground.js";
 import { paintAll } from "./painting.js";
+import { put } from "./store.js";
 
 /** The room for what reaches beyond the middles of places, in parts of the map. */
 const RIM = 0.02;
@@ -16,12 +17,12 @@ function renew() {
   const box = wider(all, RIM), { clientWidth, clientHeight } = at("picture");
   const scale = Math.min(clientWidth / Math.max(box.width, 1), clientHeight / Math.max(box.height, 1));
   paintAll(canvas, box, scale);
-  setOverview({ box, scale });
+  put("overview", { box, scale });
 }
 
 /** Paints the overview anew when the page is idle, since what it shows looks different now. */
 export function renewOverview() {
   cancelIdleCallback(waiting);
-  setOverview(null);
+  put("overview", null);
   waiting = requestIdleCallback(renew, { timeout: LATEST });
 }

@@ -12,9 +12,10 @@ import { paintEnd } from "./dots.js";
 import { at } from "./elements.js";
 import { isFaded } from "./filter.js";
 import { BEYOND, wider } from "./gliding.js";
-import { endsOf, ground, isFar, isGround, isMarked, isOfLimit, places } from "./ground.js";
+import { endsOf, isFar, isGround, isMarked, isOfLimit } from "./ground.js";
 import { shades } from "./legend.js";
 import { isSparse, paintNames } from "./names.js";
+import { now } from "./store.js";
 import { scale, seenBox } from "./view.js";
 
 /** The look of a place before the bottleneck, and of one that is shut; and the way of an arc in which nothing flows either way. */
@@ -73,11 +74,11 @@ export function paintAll(canvas, box, pixels) {
  * @param {number} by how many pixels of the canvas are one of the page
  */
 function paintParts(brush, box, by) {
-  const { pen, isAllBehind } = brush, pixels = brush.scale * by, seen = ground.lines.filter((line) => isIn(box, line));
+  const { pen, isAllBehind } = brush, pixels = brush.scale * by, seen = now.ground.lines.filter((line) => isIn(box, line));
   pen.setTransform(pixels, 0, 0, pixels, -box.x * pixels, -box.y * pixels);
   if (isFar(brush.scale)) shadeBefore(brush);
   stroke(brush, seen.filter(isMarked), "mark", 9);
-  paintLines(brush, seen.filter((line) => isAllBehind || !ground.before.has(`arc-${line.number}`)));
+  paintLines(brush, seen.filter((line) => isAllBehind || !now.drawn.ids.has(`arc-${line.number}`)));
   const behind = paintPlaces(brush, box);
   // Places that lie close together would hide the bottleneck, which is what one looks for at this scale.
   if (isFar(brush.scale)) paintLines(brush, seen.filter(isOfLimit));
@@ -90,18 +91,18 @@ function paintParts(brush, box, by) {
  * @param {Line[]} drawn
  */
 function paintLines(brush, drawn) {
-  const now = shades(), by = thicker(ground.usual * brush.scale);
+  const entries = shades(), by = thicker(now.ground.usual * brush.scale);
   /** @type {Map<string, Line[]>} */
   const alike = new Map();
   for (const line of drawn) {
-    const place = now.length - now.indexOf(shadeOf(now, line.mark));
+    const place = entries.length - entries.indexOf(shadeOf(entries, line.mark));
     const key = `${isFaded(line.mark) ? 0 : 1}${String.fromCharCode(48 + place)}${line.mark.width}`;
     const group = alike.get(key);
     if (group) group.push(line);
     else alike.set(key, [line]);
   }
   for (const [key, lines] of [...alike].sort(([one], [other]) => (one < other ? -1 : 1))) {
-    const shade = shadeOf(now, lines[0].mark), wide = by * thickness(lines[0].mark);
+    const shade = shadeOf(entries, lines[0].mark), wide = by * thickness(lines[0].mark);
     brush.pen.globalAlpha = key.startsWith("0") ? FADED : 1;
     stroke(brush, lines, shade.ink, wide, shade.isDashed ? [5, 3] : []);
     const pointed = lines.filter((line) => line.mark.way !== STILL);
@@ -115,9 +116,9 @@ function paintLines(brush, drawn) {
  * @param {Brush} brush
  */
 function shadeBefore({ pen, colour }) {
-  const radius = Math.max(ROUND, CLOSED * ground.usual);
+  const radius = Math.max(ROUND, CLOSED * now.ground.usual);
   pen.beginPath();
-  for (const { x, y, look } of places.values()) {
+  for (const { x, y, look } of now.ground.places.values()) {
     if (look !== BEFORE) continue;
     pen.moveTo(x, y);
     pen.arc(x, y, radius, 0, 2 * Math.PI);
@@ -150,7 +151,8 @@ const isAt = (box, { x, y }) => x >= box.x - RIM && y >= box.y - RIM && x <= box
  */
 function paintPlaces(brush, box) {
   const { pen, scale: by, isAllBehind, colour } = brush;
-  const behind = [...places.values()].filter((place) => isAt(box, place) && (isAllBehind || !ground.before.has(`node-${place.node}`)));
+  const { ground: { places }, drawn: { ids } } = now;
+  const behind = [...places.values()].filter((place) => isAt(box, place) && (isAllBehind || !ids.has(`node-${place.node}`)));
   /**
    * Those that look alike are painted together, and the selection last.
    * @type {Record<string, Spot[]>}
@@ -176,7 +178,7 @@ function paintPlaces(brush, box) {
 }
 
 /** @param {Line} line */
-const isAtEnd = ({ tail, head }) => Boolean(places.get(tail)?.end || places.get(head)?.end);
+const isAtEnd = ({ tail, head }) => [tail, head].some((node) => now.ground.places.get(node)?.end);
 
 /**
  * Returns the lines and the arrows that names avoid: all that are visible, or if they are too many to be avoided, only the bottleneck and
@@ -184,7 +186,7 @@ const isAtEnd = ({ tail, head }) => Boolean(places.get(tail)?.end || places.get(
  * @returns {import("./ink.js").Stroke[]}
  */
 export function strokesSeen() {
-  const by = thicker(ground.usual * scale()), seen = ground.lines.filter((line) => isIn(seenBox(), line));
+  const { lines, usual } = now.ground, by = thicker(usual * scale()), seen = lines.filter((line) => isIn(seenBox(), line));
   const atEnds = isSparse() ? [] : seen.filter((line) => isAtEnd(line) && !isOfLimit(line));
   const avoided = isSparse() ? seen : [...seen.filter(isOfLimit), ...atEnds.length > MOST_AVOIDED ? [] : atEnds];
   return avoided.flatMap((line) => {

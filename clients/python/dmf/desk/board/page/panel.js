@@ -1,20 +1,11 @@
 /** The panel beside the picture: its tabs, and how much of it is visible. On a narrow page it is a bottom sheet with three heights. */
 import { at, onClick } from "./elements.js";
+import { put } from "./store.js";
 import { keepFree } from "./view.js";
 
 const HEIGHTS = ["low", "middle", "full"];
 /** The least length of a drag, in pixels. */
 const DRAG = 4;
-/** @type {((part: string) => unknown)[]} */
-const watchers = [];
-
-/**
- * Calls `watcher` with the part of each tab that is opened.
- * @param {(part: string) => unknown} watcher
- */
-export function watchPanel(watcher) {
-  watchers.push(watcher);
-}
 
 const tabs = () => /** @type {HTMLElement[]} */ ([...at("tabs").querySelectorAll("[role=tab]")]);
 
@@ -32,7 +23,7 @@ function open(tab) {
     partOf(it).hidden = it !== tab;
   }
   unfold();
-  for (const watcher of watchers) watcher(partOf(tab).id);
+  put("tab", partOf(tab).id);
 }
 
 /** Unfolds the panel, or raises it if it is low. */

@@ -1,10 +1,19 @@
 /**
  * The picture of the network, or of the part of it near a place or the bottleneck.
- * @typedef {import("./labels.js").Label} Label
- * @typedef {import("./arrows.js").Arrow} Arrow
+ * @typedef {{ version: number, layout: number, near: string, form: number, count: number, origin: string, fixed: string,
+ *   canLayOut: boolean, canDrawAll: boolean, moved: number }} Drawing
+ *   `version` is another one after a place was moved, and `layout` if all lie elsewhere; the picture is that near a place, for a window
+ *   of this `form`, and has a `count` of arcs; `origin` says where positions come from, if that is known, `fixed` why no place can be
+ *   moved, if so, and `moved` how many were; with `canDrawAll` the picture is a part, and all can be laid out
+ * @typedef {{ wanted: string, shown: string, isFollowing: boolean }} Around the place that the picture should be around, or an empty text
+ *   for the bottleneck; the one that it is around; and whether it should be because the view has moved there
+ * @typedef {{ labels: import("./labels.js").Label[], arrows: import("./arrows.js").Arrow[], limits: number[][], usual: number,
+ *   ids: Set<string> }} Drawn `limits` are the middles of the arcs of the bottleneck, and `usual` the usual length of lines, in units of
+ *   the picture; `ids` are those of all parts
  */
-import { arrangeLabels } from "./arranging.js";
+import { arrangeIn } from "./arranging.js";
 import { arrowsOf, pointArrows } from "./arrows.js";
+import { Requests } from "./asking.js";
 import { hintBeyond } from "./beyond.js";
 import { choose, theChoice } from "./choice.js";
 import { markOf, shadeOf, thicker, thickness, usualLength } from "./colourings.js";
@@ -13,17 +22,17 @@ import { boxOf, partOf, parts, show } from "./drawing.js";
 import { at, onClick } from "./elements.js";
 import { isFaded } from "./filter.js";
 import { setWhole } from "./gliding.js";
-import { chooseNear, ground, groundBox, isFar, isGround, isOfLimit, lookAtGround, middlePlace, setBefore } from "./ground.js";
+import { chooseNear, groundBox, isFar, isGround, isOfLimit, lookAtGround, middlePlace } from "./ground.js";
 import { holdChoice } from "./holding.js";
 import { labelsOf } from "./labels.js";
-import { markAt, setMarks, shades } from "./legend.js";
+import { shades } from "./legend.js";
 import { isPicked, pickedCount } from "./many.js";
 import { news } from "./messages.js";
 import { renewOverview } from "./overview.js";
 import { paint } from "./painting.js";
 import { formOf, freePart } from "./room.js";
 import { ask, present, wording } from "./state.js";
-import { now as shown, put } from "./store.js";
+import { now, put, update, watch } from "./store.js";
 import { beginView, fit, isFitted, scale, see, seenBox, settle, zoom } from "./view.js";
 import { grouped } from "./words.js";
 
@@ -31,23 +40,11 @@ import { grouped } from "./words.js";
 export const LARGER = 1.4;
 /** How long the view has to rest, in milliseconds, and the most labels of a picture that is drawn for each frame of a move. */
 const STILL = 300, QUICK = 60;
-/** `form` is how many hundredths of its height the free part of the window is wide; places are laid out for that. */
-let asked = 0, count = 0, pending = 0, moving = 0, form = 0;
-/** The place around which the picture should be, or an empty text for the bottleneck; and the one around which it is. */
-let near = "", nearShown = "none";
-/** Whether the picture is around a place because the view has moved there. */
-let isFollowing = false;
-/** @type {Label[]} */
-let labels = [];
-/** The usual length of lines, in units of the picture. */
-let usual = 1;
-/** @type {Arrow[]} */
-let arrows = [];
-/** @type {number[][]} the middles of the arcs of the bottleneck, in units of the picture */
-let limits = [];
+const requests = new Requests();
+let pending = 0, moving = 0;
 
 /** Returns true if not all arcs are shown. */
-export const isPart = () => count < present().arcs;
+export const isPart = () => now.drawing.count < present().arcs;
 
 /**
  * Shows what is near a place, or near the bottleneck.
@@ -55,52 +52,53 @@ export const isPart = () => count < present().arcs;
  * @param {boolean} isMoved whether the view has moved there already
  */
 export function showNear(node, isMoved = false) {
-  near = String(node);
-  isFollowing = isMoved && Boolean(near);
-  if (isMoved) nearShown = near;
+  const wanted = String(node);
+  put("around", { wanted, shown: isMoved ? wanted : now.around.shown, isFollowing: isMoved && Boolean(wanted) });
   return showPicture();
 }
 
 /** Shows what is near the middle of the view, and what is near the selection or the bottleneck once the view is wide again. */
 function follow() {
   const node = middlePlace();
-  if (node && String(node) !== near) showNear(node, true);
-  else if (isFollowing && isFar() && !partOf(theChoice())) showNear("", true);
+  if (node && String(node) !== now.around.wanted) showNear(node, true);
+  else if (now.around.isFollowing && isFar() && !partOf(theChoice())) showNear("", true);
 }
 
-/** Shows the picture for another form of the window. Only then, since no other change moves a place. */
-async function reshape() {
-  const now = formOf();
-  if (isGround() || now === form) return undefined;
-  const turn = (asked += 1), told = await ask(`picture?near=${near}&form=${now}`);
-  if (!told || turn !== asked) return undefined;
+/**
+ * Shows the picture for another form of the window, if all was fitted to it. Only then, since no other change moves a place.
+ * @param {number} form
+ */
+async function reshape(form) {
+  if (!isFitted() || isGround() || form === now.drawing.form) return undefined;
+  const isLatest = requests.begin(), told = await ask(`picture?near=${now.around.wanted}&form=${form}`);
+  if (!told || !isLatest()) return undefined;
   // Whoever moves the picture meanwhile keeps it as it is.
   if (!isFitted()) return showPicture();
-  form = now;
-  nearShown = "none";
-  return showTold(told, turn);
+  update("around", { shown: "none" });
+  return showTold(told, form, isLatest);
 }
 
 export async function showPicture() {
-  form = form || formOf();
-  const turn = (asked += 1), told = await ask(`picture?near=${near}&form=${form}`);
-  if (told && turn === asked) await showTold(told, turn);
+  const form = now.drawing.form || formOf();
+  const isLatest = requests.begin(), told = await ask(`picture?near=${now.around.wanted}&form=${form}`);
+  if (told && isLatest()) await showTold(told, form, isLatest);
 }
 
 /**
  * Shows the board's answer, unless another one was requested meanwhile.
  * @param {{ svg: string, reason: string, arcs: any[], has_ground: boolean, version: number, layout: number, origin: string,
  *   fixed: string, can_lay_out: boolean, can_draw_all: boolean, moved: number }} told
- * @param {number} turn
+ * @param {number} form
+ * @param {() => boolean} isLatest
  */
-async function showTold(told, turn) {
+async function showTold(told, form, isLatest) {
   await lookAtGround(told.has_ground, told.version);
-  if (turn !== asked) return;
-  const isElsewhere = told.layout !== shown.drawing.layout, hold = isElsewhere ? holdChoice() : null;
-  if (isElsewhere) nearShown = "none";
-  put("drawing", { version: told.version, layout: told.layout, near, form, origin: told.origin, fixed: told.fixed,
+  if (!isLatest()) return;
+  const isElsewhere = told.layout !== now.drawing.layout, hold = isElsewhere ? holdChoice() : null;
+  if (isElsewhere) update("around", { shown: "none" });
+  const near = now.around.wanted, count = told.arcs.length;
+  put("drawing", { version: told.version, layout: told.layout, near, form, count, origin: told.origin, fixed: told.fixed,
     canLayOut: told.can_lay_out, canDrawAll: told.can_draw_all, moved: told.moved });
-  count = told.arcs.length;
   const where = near && theChoice()?.node ? "the chosen place" : near ? "a place" : "the bottleneck";
   const part = isGround() ? `All ${grouped(present().arcs)} are drawn. Move in to read their names and numbers. `
     : isPart() ? `${count} of ${grouped(present().arcs)}: what lies nearest to ${where}. ` : "";
@@ -108,8 +106,8 @@ async function showTold(told, turn) {
   at("drawn-note").textContent = told.reason ? `${told.reason}.` : part;
   at("near-limit").hidden = !near;
   at("take-svg").setAttribute("href", `picture.svg?near=${near}&form=${form}&turn=${present().turn}`);
-  setMarks(isGround() ? ground.lines.map((line) => line.mark)
-    : told.arcs.map((arc) => markOf(arc.number, arc.mark)), isGround() || !isPart());
+  const marks = isGround() ? now.ground.lines.map((line) => line.mark) : told.arcs.map((arc) => markOf(arc.number, arc.mark));
+  put("marks", { byNumber: new Map(marks.map((it) => [it.number, it])), isAll: isGround() || !isPart() });
   draw(told.svg);
   hold?.();
 }
@@ -121,17 +119,18 @@ function draw(text) {
   // Without Graphviz a map is drawn all the same.
   const box = boxOf(text) ?? groundBox(".node, .arc");
   // After the picture is in the page, reading its size would lay it out, and changes to its labels would do that once more.
-  if (box && (text ? nearShown !== near : nearShown === "none")) takeRoom(box);
+  const { shown, wanted } = now.around;
+  if (box && (text ? shown !== wanted : shown === "none")) takeRoom(box);
   show(text);
   if (!box) return;
-  labels = labelsOf(parts());
-  setBefore(parts().map((part) => part.id));
+  const labels = labelsOf(parts()), { lines, usual } = now.ground;
   setWhole(isGround() || labels.length > QUICK ? groundBox(".node, .arc") ?? box : null);
   mark();
-  arrows = arrowsOf(parts());
-  usual = isGround() ? ground.usual : usualLength(arrows.map(({ long }) => long));
-  limits = isGround() ? ground.lines.filter(isOfLimit).map(({ from, to }) => [(from[0] + to[0]) / 2, (from[1] + to[1]) / 2])
+  const arrows = arrowsOf(parts()), limits = isGround()
+    ? lines.filter(isOfLimit).map(({ from, to }) => [(from[0] + to[0]) / 2, (from[1] + to[1]) / 2])
     : arrows.filter(({ part }) => part.matches(".cut")).map(({ path, long }) => path.getPointAtLength(long / 2)).map(({ x, y }) => [x, y]);
+  put("drawn", { labels, arrows, limits, usual: isGround() ? usual : usualLength(arrows.map(({ long }) => long)),
+    ids: new Set(parts().map((part) => part.id)) });
   see();
   if (held && document.activeElement?.id !== held) (document.getElementById(held) ?? at("picture")).focus();
 }
@@ -141,20 +140,20 @@ function draw(text) {
  * @param {import("./view.js").Box} box
  */
 function takeRoom(box) {
-  fit(nearShown === "none" ? groundBox(".node, .arc") ?? box : box);
-  nearShown = near;
+  fit(now.around.shown === "none" ? groundBox(".node, .arc") ?? box : box);
+  update("around", { shown: now.around.wanted });
 }
 
 /** Colours the parts, marks the selection, and arranges the labels again. */
 export function mark() {
-  const chosen = partOf(theChoice()), now = shades();
+  const chosen = partOf(theChoice()), entries = shades();
   for (const part of parts()) {
     const is = part === chosen || part.matches(".arc") && isPicked(Number(part.id.slice("arc-".length)));
     part.classList.toggle("chosen", is);
     if (part.ariaPressed !== String(is)) part.ariaPressed = String(is);
-    const it = part.matches(".arc") && markAt(Number(part.id.slice("arc-".length)));
+    const it = part.matches(".arc") && now.marks.byNumber.get(Number(part.id.slice("arc-".length)));
     if (!it) continue;
-    const shade = shadeOf(now, it);
+    const shade = shadeOf(entries, it);
     part.style.setProperty("--shade", `var(--${shade.ink})`);
     part.style.setProperty("--thick", String(thickness(it)));
     part.classList.toggle("dashed", Boolean(shade.isDashed));
@@ -165,7 +164,7 @@ export function mark() {
 }
 
 /** Returns the usual length of lines, in pixels. */
-export const usualPixels = () => usual * scale();
+export const usualPixels = () => now.drawn.usual * scale();
 
 /**
  * Arranges the labels before the next frame. If the view has moved to another part and stays there, that part gets its numbers.
@@ -174,14 +173,14 @@ export const usualPixels = () => usual * scale();
 function label(isGliding = false) {
   pending = isGliding ? pending : pending || requestAnimationFrame(() => {
     pending = 0;
-    const by = thicker(usual * scale());
+    const { arrows, limits } = now.drawn, by = thicker(usualPixels());
     at("picture").style.setProperty("--thicker", String(by));
     at("picture").style.setProperty("--scale", String(scale()));
-    sizeDots(usual * scale());
+    sizeDots(usualPixels());
     pointArrows(arrows, scale(), by);
     hintBeyond(limits.map(([x, y]) => [(x - seenBox().x) * scale(), (y - seenBox().y) * scale()]), freePart(),
       at("picture").querySelector(".chosen")?.getBoundingClientRect());
-    arrangeLabels(labels, arrows, by);
+    arrangeIn(null);
     paint();
   });
   clearTimeout(moving);
@@ -223,7 +222,9 @@ function meant(event) {
 }
 
 export function beginPicture() {
-  beginView(label, reshape);
+  watch("view", ({ isGliding }) => label(isGliding));
+  watch("form", reshape);
+  beginView();
   at("picture").addEventListener("click", (event) => {
     const part = meant(event)?.closest("g.arc, g.node");
     if (part) choosePart(part);

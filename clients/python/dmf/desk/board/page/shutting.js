@@ -1,21 +1,15 @@
-/**
- * The controls of the page, which are disabled while the board cannot be reached.
- * @type {HTMLElement[]}
- */
-let shut = [];
+/** The controls of the page, which are disabled while the board cannot be reached. */
 
-export const isShut = () => shut.length > 0;
-
-/** Disables all controls. */
+/** Disables all controls, and returns them. */
 export function shutControls() {
-  shut = [...document.querySelectorAll("button:enabled, select:enabled, input:enabled")].map((it) => /** @type {HTMLElement} */ (it));
+  const shut = [...document.querySelectorAll("button:enabled, select:enabled, input:enabled")].map((it) => /** @type {HTMLElement} */ (it));
   for (const it of shut) put(it, true);
+  return shut;
 }
 
-/** Enables what `shutControls` disabled. */
-export function openControls() {
+/** @param {HTMLElement[]} shut the controls that are enabled again */
+export function openControls(shut) {
   for (const it of shut) put(it, false);
-  shut = [];
 }
 
 /**

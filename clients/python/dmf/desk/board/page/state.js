@@ -1,5 +1,5 @@
 /**
- * The latest state from the board, and the requests to the board.
+ * The states from the board, and the requests to the board.
  * @typedef {{ number: number, node: number, tail_node: number, head_node: number, name: string, label: string, short: string, tail: string,
  *   head: string,
  *   flow: string, capacity: string, way: string, other_way: string, there: string, back: string, closed: boolean, replaced: boolean,
@@ -31,51 +31,29 @@ import { heard, ONCE } from "./asking.js";
 import { at, button, dropTyped } from "./elements.js";
 import { heedLeaving, live } from "./live.js";
 import { hasTrouble, news, patiently, trouble } from "./messages.js";
-import { isShut, openControls, shutControls } from "./shutting.js";
+import { openControls, shutControls } from "./shutting.js";
+import { now, put, watch } from "./store.js";
 import { sentence, upper } from "./words.js";
 
-/** @type {State | null} */
-let state = null;
-let acting = false, newest = 0;
-/** @type {(version: number) => unknown} */
-let pictureHeard = () => undefined;
-/** How many actions, and displays of a state, have not ended. */
-let pending = 0;
-/** @type {((state: State, before: State | null) => unknown)[]} */
-const watchers = [];
 /** What the parts of the page request after each state. The latest address of each path is remembered. */
 const SHOWN = ["picture", "looks", "rows", "arc", "place", "scenarios"];
-/** @type {Map<string, string>} */
-const addresses = new Map();
 /**
- * What came with a state, by the addresses with which these parts request it.
- * @type {Record<string, any>}
+ * Whether this page is acting, and how many actions, and displays of a state, have not ended; these addresses, by their paths; what came
+ * with a state, by the addresses that request it; and what ends the connection.
+ * @type {{ isActing: boolean, pending: number, addresses: Map<string, string>, parts: Record<string, any>, letGo: () => void }}
  */
-let parts = {};
+const activity = { isActing: false, pending: 0, addresses: new Map(), parts: {}, letGo: () => undefined };
 
 /** Returns the present state. Throws an error before there is one. */
 export function present() {
-  if (!state) throw new Error("nothing is told yet");
-  return state;
+  if (!now.state) throw new Error("nothing is told yet");
+  return now.state;
 }
 
 export const wording = () => present().words;
 export const noun = () => wording().arc;
-export const units = () => (state?.unit ? ` ${state.unit}` : "");
-export const caption = () => state?.unit && `in ${state.unit}` || "";
-
-/**
- * Calls `watcher` with each new state and the one before it.
- * @param {(state: State, before: State | null) => unknown} watcher
- */
-export function watch(watcher) {
-  watchers.push(watcher);
-}
-
-/** @param {(version: number) => unknown} watcher is called with the number of the picture, which is another one after a place was moved */
-export function watchPicture(watcher) {
-  pictureHeard = watcher;
-}
+export const units = () => (now.state?.unit ? ` ${now.state.unit}` : "");
+export const caption = () => now.state?.unit && `in ${now.state.unit}` || "";
 
 /**
  * Returns the board's answer, parsed from JSON. Returns null if the board refuses, after showing why; and undefined if the answer belongs
@@ -86,11 +64,11 @@ export function watchPicture(watcher) {
  * @returns {Promise<any>}
  */
 export async function ask(path, content, isQuiet = false) {
-  const [name] = path.split("?"), part = parts[path];
-  if (!content && SHOWN.includes(name)) addresses.set(name, path);
-  delete parts[path];
-  if (!content && part && part.turn === state?.turn) return part;
-  const reply = await heard(path, content && { turn: state?.turn, ...content });
+  const [name] = path.split("?"), part = activity.parts[path];
+  if (!content && SHOWN.includes(name)) activity.addresses.set(name, path);
+  delete activity.parts[path];
+  if (!content && part && part.turn === now.state?.turn) return part;
+  const reply = await heard(path, content && { turn: now.state?.turn, ...content });
   if (!reply) {
     if (!ONCE.includes(path) || !await heard("state")) {
       lost();
@@ -100,7 +78,7 @@ export async function ask(path, content, isQuiet = false) {
     await renew();
     return undefined;
   }
-  const { answer, told } = reply;
+  const { answer, told } = reply, { state } = now;
   if (answer.status === 410) {
     trouble(`The session ended by itself: ${told.ended}. To take along, there is the problem below.`, button(
       told.steps ? `Begin again, with the steps made so far (${told.steps})` : "Begin again", () => act({ what: "again" }, "begun again")));
@@ -109,7 +87,7 @@ export async function ask(path, content, isQuiet = false) {
   if (!answer.ok && !isQuiet || told.told) trouble(sentence(told.error || told.told));
   if (state && told.turn !== undefined && told.turn !== state.turn && path !== "state" && !(path === "do" && answer.ok)) {
     // While this page is acting itself, it updates when that has ended.
-    if (told.turn > state.turn && (!acting || path === "do")) await renew();
+    if (told.turn > state.turn && (!activity.isActing || path === "do")) await renew();
     return undefined;
   }
   return answer.ok ? told : null;
@@ -117,9 +95,10 @@ export async function ask(path, content, isQuiet = false) {
 
 /** Says that the board cannot be reached, and disables everything except the button that tries again. */
 function lost() {
-  if (isShut()) return;
-  letGo();
-  shutControls();
+  const { shut, state } = now;
+  if (shut.length) return;
+  activity.letGo();
+  put("shut", shutControls());
   const kept = state?.kept_in ? `Each step is in ${state.kept_in}.` : "The steps on this page are not kept: there they can still be read.";
   trouble(`The board does not answer. Where it has ended, start it again with “dmf-board ${state?.title ?? "FILE"}”, and open the address `
     + `that it tells. ${kept} What you typed stays here.`, button("Look again", lookAgain));
@@ -128,9 +107,10 @@ function lost() {
 /** Goes on if the board can be reached again. What was requested meanwhile did not come, so the state is shown again. */
 async function lookAgain() {
   if (!await heard("state")) return;
-  openControls();
+  openControls(now.shut);
+  put("shut", []);
   trouble("");
-  letGo = follow();
+  activity.letGo = follow();
   await renew(true);
 }
 
@@ -139,7 +119,7 @@ async function lookAgain() {
  * @param {boolean} isForced also if this page shows it already
  */
 async function renew(isForced = false) {
-  const told = await patiently(ask("state"));
+  const told = await patiently(ask("state")), { state } = now;
   if (!told || state && (told.turn < state.turn || told.turn === state.turn && !isForced)) return;
   if (state && state.turn !== told.turn) news(hasTrouble() ? "" : `The ${wording().whole} has changed in another tab.`);
   await show(told);
@@ -152,8 +132,8 @@ async function renew(isForced = false) {
  */
 async function busily(task) {
   const note = (/** @type {number} */ change) => {
-    pending += change;
-    at("main").setAttribute("aria-busy", String(pending > 0));
+    activity.pending += change;
+    at("main").setAttribute("aria-busy", String(activity.pending > 0));
   };
   note(1);
   try {
@@ -165,7 +145,7 @@ async function busily(task) {
 
 /** Shows the newest state, if this page shows an older one. */
 async function catchUp() {
-  if (state && newest > state.turn) await renew();
+  if (now.state && now.newest.turn > now.state.turn) await renew();
 }
 
 /**
@@ -173,13 +153,11 @@ async function catchUp() {
  * @param {State} told
  */
 const show = (told) => busily(async () => {
-  const before = state;
-  state = told;
-  parts = told.parts ?? {};
-  addresses.clear();
+  activity.parts = told.parts ?? {};
+  activity.addresses.clear();
   // Hidden until now, since laying it out without its content would be wasted work.
   at("main").hidden = false;
-  const shown = Promise.all(watchers.map((watcher) => watcher(told, before)));
+  const shown = put("state", told);
   if (told.flows_follow) news("What can be sent and the bottleneck are known; the flows follow.");
   await (told.flows_follow ? patiently(shown) : shown);
   if (told.flows_follow) news("The flows are there.");
@@ -193,12 +171,12 @@ const show = (told) => busily(async () => {
  * @returns {Promise<boolean>} whether it was done
  */
 export const act = (content, words = "") => busily(async () => {
-  if (acting) return false;
-  acting = true;
+  if (activity.isActing) return false;
+  activity.isActing = true;
   trouble("");
   /** @type {State & { moved: string } | null | undefined} */
-  const told = await patiently(ask("do", { ...content, shown: [...addresses.values()] }));
-  acting = false;
+  const told = await patiently(ask("do", { ...content, shown: [...activity.addresses.values()] }));
+  activity.isActing = false;
   if (told) {
     dropTyped();
     news(`${upper(words || told.steps[told.at].text)}: ${told.value}${units()}, ${told.moved}`);
@@ -216,16 +194,13 @@ export const redo = () => present().at < present().steps.length - 1 && act({ wha
 
 /** Follows the newer states of the board. While this page is acting itself, it updates when that has ended. */
 const follow = () => live({
-  heard: (turn, picture = 0) => {
-    newest = turn;
-    if (!acting) catchUp();
-    pictureHeard(picture);
-  },
-  broke: () => acting || renew(),
+  heard: (turn, picture = 0) => put("newest", { turn, picture }),
+  broke: () => activity.isActing || renew(),
   lost,
 });
 
-let letGo = follow();
+watch("newest", () => activity.isActing || catchUp());
+activity.letGo = follow();
 heedLeaving();
 
 /** Shows the page for the first time. */

@@ -1,8 +1,12 @@
 /**
  * The table of all arcs. It has the visible rows, and requests others while it is scrolled.
  * @typedef {import("./rows.js").Arc} Arc
- * @typedef {{ total: number, first: number, rows: Arc[], reading: string, fault: string }} Part
+ * @typedef {{ order: string, filter: string, total: number, first: number, rows: Arc[], reading: string, fault: string, current: number,
+ *   anchor: number }} Table
+ *   its order and filter; how many rows match, and the visible ones; how the filter is understood, or why it is not; the row from which
+ *   keys move, and the one where a selection of several begins
  */
+import { Requests } from "./asking.js";
 import { choose, theChoice } from "./choice.js";
 import { at, make, onClick, replace } from "./elements.js";
 import { beginHelp, filterWords, typeFilter } from "./filter.js";
@@ -10,21 +14,18 @@ import { isPicked, pickMore, pickThese, toggle } from "./many.js";
 import { trouble } from "./messages.js";
 import { COLUMNS, fill, HEIGHT, NUMBERS, row, spacer, title } from "./rows.js";
 import { ask, caption, noun, units, wording } from "./state.js";
-import { watch } from "./store.js";
+import { now, update, watch } from "./store.js";
 import { sentence, upper } from "./words.js";
 
 /** The rows in one request; and the rows by which Page Up and Page Down move. */
 const AT_ONCE = 36, PAGE = 10;
-/** @type {Part} */
-let part = { total: 0, first: 0, rows: [], reading: "", fault: "" };
+const requests = new Requests();
 /**
- * The rows in the page, by their places and their arcs' numbers.
- * @type {Map<string, HTMLTableRowElement>}
+ * The rows in the page, by their places and their arcs' numbers, and the length of the longest amount so far, which sets the width of the
+ * columns; whether rows are being requested that have become visible, and whether others have meanwhile.
+ * @type {{ rows: Map<string, HTMLTableRowElement>, signs: number, isAsking: boolean, isLate: boolean }}
  */
-let shown = new Map();
-let order = "", asked = 0, current = 0, anchor = 0, isAsking = false, isLate = false;
-/** The length of the longest amount so far, which sets the width of the columns. */
-let signs = 0;
+const activity = { rows: new Map(), signs: 0, isAsking: false, isLate: false };
 
 /**
  * Returns the order after a click on a column's title: of numbers the largest come first.
@@ -32,12 +33,10 @@ let signs = 0;
  */
 function nextOrder(column) {
   const orders = [...NUMBERS.includes(column) ? [`-${column}`, column] : [column, `-${column}`], ""];
-  return orders[(orders.indexOf(order) + 1) % orders.length];
+  return orders[(orders.indexOf(now.table.order) + 1) % orders.length];
 }
 
-const words = () => `filter=${encodeURIComponent(filterWords())}&sort=${order}`;
-/** The filter whose rows are shown. */
-let filtered = "";
+const words = () => `filter=${encodeURIComponent(filterWords())}&sort=${now.table.order}`;
 
 /**
  * Returns the numbers of `count` arcs of the table, or null if the board has changed since: other rows may stand there.
@@ -53,41 +52,38 @@ async function numbers(first, count) {
 
 /** Updates the visible rows after a change of the state, the filter or the order. */
 export async function showTable() {
-  const turn = (asked += 1);
-  const above = Math.floor(at("rows").scrollTop / HEIGHT) - AT_ONCE / 3, first = Math.max(0, Math.min(above, part.total - AT_ONCE));
+  const isLatest = requests.begin();
+  const above = Math.floor(at("rows").scrollTop / HEIGHT) - AT_ONCE / 3, first = Math.max(0, Math.min(above, now.table.total - AT_ONCE));
   const told = await ask(`rows?${words()}&first=${first}&count=${AT_ONCE}`);
-  if (turn !== asked || !told) return;
-  part = told;
-  at("filter-told").textContent = reading();
-  at("filter").setAttribute("aria-invalid", String(Boolean(part.fault)));
-  current = Math.min(current, Math.max(0, part.total - 1));
+  if (!isLatest() || !told) return;
+  const { total, rows, reading, fault } = told, current = Math.min(now.table.current, Math.max(0, total - 1));
+  update("table", { total, first: told.first, rows, reading, fault, current });
+  at("filter-told").textContent = fault ? sentence(fault) : `${total} ${total === 1 ? "row" : "rows"}: ${reading || "all"}.`;
+  at("filter").setAttribute("aria-invalid", String(Boolean(fault)));
   draw();
-}
-
-/** Returns how the filter is understood, and how many rows match. */
-function reading() {
-  return part.fault ? sentence(part.fault) : `${part.total} ${part.total === 1 ? "row" : "rows"}: ${part.reading || "all"}.`;
 }
 
 /** Requests the rows that have become visible, one request after the other. */
 async function scrolled() {
   const first = Math.floor(at("rows").scrollTop / HEIGHT), last = first + Math.ceil(at("rows").clientHeight / HEIGHT);
-  if (first >= part.first && Math.min(last, part.total) <= part.first + part.rows.length) return;
-  isLate = isAsking;
-  if (isAsking) return;
-  isAsking = true;
+  const { table } = now;
+  if (first >= table.first && Math.min(last, table.total) <= table.first + table.rows.length) return;
+  activity.isLate = activity.isAsking;
+  if (activity.isAsking) return;
+  activity.isAsking = true;
   await showTable();
-  isAsking = false;
-  if (isLate) scrolled();
+  activity.isAsking = false;
+  if (activity.isLate) scrolled();
 }
 
 function draw() {
+  const { order, total, first, rows } = now.table, before = activity.rows;
   /** @type {Record<string, string>} */
-  const own = { name: upper(noun()), flow: wording().flows, capacity: wording().fits };
+  const named = { name: upper(noun()), flow: wording().flows, capacity: wording().fits };
   const heads = COLUMNS.map(([column, told]) => {
-    const sort = make("button", own[column] ?? told, { type: "button", class: "link" });
+    const sort = make("button", named[column] ?? told, { type: "button", class: "link" });
     sort.addEventListener("click", () => {
-      order = nextOrder(column);
+      update("table", { order: nextOrder(column) });
       at("rows").scrollTop = 0;
       showTable();
     });
@@ -95,32 +91,32 @@ function draw() {
     return make("th", sort, { scope: "col", class: column, "aria-sort": way });
   });
   const grid = /** @type {HTMLTableElement} */ (at("grid"));
-  grid.setAttribute("aria-rowcount", String(part.total + 1));
-  signs = Math.max(signs, ...part.rows.flatMap((arc) => [arc.flow.length, arc.capacity.length]));
-  grid.style.setProperty("--signs", String(signs));
+  grid.setAttribute("aria-rowcount", String(total + 1));
+  activity.signs = Math.max(activity.signs, ...rows.flatMap((arc) => [arc.flow.length, arc.capacity.length]));
+  grid.style.setProperty("--signs", String(activity.signs));
   const keys = "arrow keys move, Space chooses, Control and A all, Enter shows one";
   grid.setAttribute("aria-label", `All ${noun()}s ${caption()}; ${keys}`);
   if (grid.tHead) replace(grid.tHead, [make("tr", [title("tick", "chosen"), ...heads, title("marks", "state")])]);
-  const rest = part.total - part.first - part.rows.length, before = shown;
-  shown = new Map(part.rows.map((arc, place) => {
-    const key = `${part.first + place} ${arc.number}`, made = before.get(key) ?? row(part.first + place);
+  activity.rows = new Map(rows.map((arc, place) => {
+    const key = `${first + place} ${arc.number}`, made = before.get(key) ?? row(first + place);
     fill(made, arc);
     return [key, made];
   }));
-  replace(grid.tBodies[0], [spacer(part.first), ...shown.values(), spacer(rest)]);
+  replace(grid.tBodies[0], [spacer(first), ...activity.rows.values(), spacer(total - first - rows.length)]);
   point();
 }
 
 /** Marks the current row, from which keys move, and the selected ones. */
 function point() {
-  for (const [place, { number }] of part.rows.entries()) {
-    const made = document.getElementById(`row-${part.first + place}`), is = isPicked(number), tick = made?.querySelector("input");
-    made?.classList.toggle("current", part.first + place === current);
+  const { total, first, rows, current } = now.table;
+  for (const [place, { number }] of rows.entries()) {
+    const made = document.getElementById(`row-${first + place}`), is = isPicked(number), tick = made?.querySelector("input");
+    made?.classList.toggle("current", first + place === current);
     made?.classList.toggle("chosen", number === theChoice()?.arc);
     if (made && made.ariaSelected !== String(is)) made.ariaSelected = String(is);
     if (tick) tick.checked = is;
   }
-  at("grid").setAttribute("aria-activedescendant", part.total ? `row-${current}` : "");
+  at("grid").setAttribute("aria-activedescendant", total ? `row-${current}` : "");
 }
 
 /**
@@ -128,7 +124,8 @@ function point() {
  * @param {number} place
  */
 async function go(place) {
-  current = Math.max(0, Math.min(part.total - 1, place));
+  const current = Math.max(0, Math.min(now.table.total - 1, place));
+  update("table", { current });
   const box = at("rows"), top = current * HEIGHT, room = box.clientHeight - HEIGHT;
   if (top < box.scrollTop) box.scrollTop = top;
   else if (top + HEIGHT > box.scrollTop + room) box.scrollTop = top + HEIGHT - room;
@@ -147,21 +144,21 @@ export async function goToChosen() {
   const number = theChoice()?.arc, host = at("part-all");
   point();
   if (!number || host.hidden || host.contains(document.activeElement)) return;
-  const told = await ask(`numbers?${words()}&first=0&count=${part.total}`), place = told?.numbers.indexOf(number) ?? -1;
+  const told = await ask(`numbers?${words()}&first=0&count=${now.table.total}`), place = told?.numbers.indexOf(number) ?? -1;
   if (place >= 0 && number === theChoice()?.arc) await go(place);
 }
 
-const arcAt = (/** @type {number} */ place) => part.rows[place - part.first];
+const arcAt = (/** @type {number} */ place) => now.table.rows[place - now.table.first];
 
 /** Selects the rows between the one where the selection began and the current one. */
 async function pickRange() {
-  const found = await numbers(Math.min(anchor, current), Math.abs(anchor - current) + 1);
+  const { anchor, current } = now.table, found = await numbers(Math.min(anchor, current), Math.abs(anchor - current) + 1);
   if (found) pickThese(found);
 }
 
 /** Selects all arcs that match the filter. */
 async function pickAll() {
-  const found = await numbers(0, part.total);
+  const found = await numbers(0, now.table.total);
   if (found) pickMore(found);
 }
 
@@ -170,12 +167,12 @@ async function clicked(event) {
   const target = event.target instanceof Element ? event.target : null;
   const made = target?.closest("tbody tr[id]");
   if (!made) return;
-  current = Number(made.id.slice("row-".length));
-  const arc = arcAt(current);
+  const current = Number(made.id.slice("row-".length)), arc = arcAt(current);
+  update("table", { current });
   if (event.shiftKey) {
     await pickRange();
   } else {
-    anchor = current;
+    update("table", { anchor: current });
     if (event.ctrlKey || event.metaKey || target?.matches("input, .tick")) await toggle(arc.number);
     else await Promise.all([pickThese([arc.number]), choose({ arc: arc.number })]);
   }
@@ -184,8 +181,9 @@ async function clicked(event) {
 
 /** @param {KeyboardEvent} event */
 async function typed(event) {
-  if (event.target !== at("grid") || !part.total) return;
-  const steps = { ArrowDown: 1, ArrowUp: -1, PageDown: PAGE, PageUp: -PAGE, Home: -part.total, End: part.total }[event.key];
+  const { total, current } = now.table;
+  if (event.target !== at("grid") || !total) return;
+  const steps = { ArrowDown: 1, ArrowUp: -1, PageDown: PAGE, PageUp: -PAGE, Home: -total, End: total }[event.key];
   const to = steps && current + steps;
   const isAll = event.key === "a" && (event.ctrlKey || event.metaKey);
   if (to === undefined && !isAll && ![" ", "Enter", "Escape"].includes(event.key)) return;
@@ -195,9 +193,9 @@ async function typed(event) {
   else if (to !== undefined) {
     await go(to);
     if (event.shiftKey) await pickRange();
-    else anchor = current;
+    else update("table", { anchor: now.table.current });
   } else if (arcAt(current)) {
-    anchor = current;
+    update("table", { anchor: current });
     await (event.key === " " ? toggle(arcAt(current).number) : choose({ arc: arcAt(current).number }));
   }
 }
@@ -217,10 +215,9 @@ export function beginTable() {
 
 /** If the filter has changed, shows its rows from the first on. */
 export function showFiltered() {
-  if (filterWords() === filtered) return undefined;
-  filtered = filterWords();
+  if (filterWords() === now.table.filter) return undefined;
   at("rows").scrollTop = 0;
-  current = anchor = 0;
+  update("table", { filter: filterWords(), current: 0, anchor: 0 });
   return showTable();
 }
 

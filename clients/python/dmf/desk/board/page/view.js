@@ -1,77 +1,77 @@
 /**
  * The view, which is the visible part of the picture: it can be moved, scaled about a point, and fitted to a box.
  * @typedef {{ x: number, y: number, width: number, height: number }} Box
+ * @typedef {{ box: Box, wide: number, high: number, fitted: Box | null, focus: { x: number, y: number },
+ *   drawnBox: Box | null, isGliding: boolean }} View
+ *   the visible part of the picture, and its size in pixels; the box to which it was fitted last, if it was not moved since; the middle of
+ *   the latest free part that was large enough; the visible part for which the picture was drawn, or null before; and whether that drawing
+ *   glides along until the view rests
  */
 import { at } from "./elements.js";
-import { glide, isMoving, rest } from "./gliding.js";
-import { freePart } from "./room.js";
+import { glide, rest } from "./gliding.js";
+import { formOf, freePart } from "./room.js";
+import { now, put } from "./store.js";
 
 /** The largest scale, in pixels per unit of the picture, and the largest one for a fit; the smallest; and, in pixels, the room for labels
  * at each side, the least height of a free part that somebody looks at, and the least move that somebody sees. */
 const MOST = 6, MOST_FITTED = 1.8, LEAST = 0.004, ASIDE = 60, LEAST_FREE = 80, SEEN = 0.5;
-/** @type {Box} */
-let seen = { x: 0, y: 0, width: 1, height: 1 };
-let isBegun = false, wide = 1, high = 1;
-/**
- * The box to which the view was fitted last, if it was not moved since.
- * @type {Box | null}
- */
-let fitted = null;
-/** The middle of the latest free part that was large enough. */
-let focus = { x: 0, y: 0 };
-/** @type {(isGliding?: boolean) => unknown} */
-let told = () => undefined;
-/** @type {() => unknown} */
-let reshaped = () => undefined;
 
 /** Returns true if the view was fitted, and not moved since. */
-export const isFitted = () => Boolean(fitted);
+export const isFitted = () => Boolean(now.view.fitted);
 
 /** Returns the pixels per unit of the picture. */
-export const scale = () => wide / seen.width;
+export const scale = () => now.view.wide / now.view.box.width;
 
 /** Returns the visible part of the picture. */
-export const seenBox = () => seen;
+export const seenBox = () => now.view.box;
+
+/** Returns the size of the window. To measure it lays the page out. */
+function windowSize() {
+  const { clientWidth: wide, clientHeight: high } = at("picture");
+  return { wide, high };
+}
 
 /**
  * Moves the view to a middle, at a scale in pixels per unit.
  * @param {number} x
  * @param {number} y
  * @param {number} pixels
- * @param {boolean} isGesture whether it is one of many moves, between which a large picture need not be drawn
+ * @param {boolean} isGesture whether it is one of many moves, between which a large picture need not be drawn, and nothing is measured
+ * @param {Box | null} fitted the box to which it is fitted
  */
-function show(x, y, pixels, isGesture = false) {
-  const by = bounded(pixels);
-  // To measure anything lays the page out, which a gesture has no time for.
-  if (!isGesture) ({ clientWidth: wide, clientHeight: high } = at("picture"));
-  isBegun = true;
-  seen = { width: wide / by, height: high / by, x: x - wide / by / 2, y: y - high / by / 2 };
-  if (isGesture && glide(seen, by, see)) told(true);
-  else see();
+function show(x, y, pixels, isGesture = false, fitted = null) {
+  const by = bounded(pixels), { wide, high } = isGesture ? now.view : windowSize();
+  const box = { width: wide / by, height: high / by, x: x - wide / by / 2, y: y - high / by / 2 };
+  const view = { ...now.view, box, wide, high, fitted };
+  if (isGesture && glide(box, by, see)) put("view", { ...view, isGliding: true });
+  else draw(view);
 }
 
 /** @param {number} pixels per unit */
 const bounded = (pixels) => Math.min(MOST, Math.max(LEAST, pixels));
 
-/** Draws the picture in the view. */
-export function see() {
-  rest(seen);
-  if (isRoomy(freePart())) focus = middleOf(freeBox());
-  const svg = at("picture").querySelector("svg"), box = [seen.x, seen.y, seen.width, seen.height].join(" ");
+/** @param {View} view in which the picture is drawn */
+function draw(view) {
+  rest();
+  const free = freePart(), focus = isRoomy(free) ? middleOf(freeBox(free, view)) : view.focus, { x, y, width, height } = view.box;
+  const svg = at("picture").querySelector("svg"), box = [x, y, width, height].join(" ");
   if (svg?.getAttribute("viewBox") !== box) svg?.setAttribute("viewBox", box);
-  told();
+  put("view", { ...view, focus, drawnBox: view.box, isGliding: false });
 }
+
+/** Draws the picture in the view. */
+export const see = () => draw(now.view);
 
 /** Draws the view at once, if it is moving. Returns whether it was. */
 export function settle() {
-  const was = isMoving();
+  const was = now.view.isGliding;
   if (was) see();
   return was;
 }
 
 /** @param {Box} box */
 const middleOf = ({ x, y, width, height }) => ({ x: x + width / 2, y: y + height / 2 });
-const middle = () => middleOf(seen);
+const middle = () => middleOf(seenBox());
 
 /** @param {import("./room.js").Room} room */
 const middleOfRoom = ({ left, top, right, bottom }) => ({ x: (left + right) / 2, y: (top + bottom) / 2 });
@@ -84,17 +84,18 @@ const isRoomy = ({ top, bottom }) => bottom - top > LEAST_FREE;
 
 /** Keeps the view in a free part that has changed: a fitted box is fitted again, or else the middle stays. */
 function showAgain() {
-  if (!isBegun) return;
+  const { drawnBox, fitted, focus } = now.view;
+  if (!drawnBox) return;
   if (fitted) fit(fitted);
   else showFree(focus.x, focus.y, scale());
 }
 
 /** Keeps the view after the window has changed its size, or a phone was turned. */
 function refresh() {
-  const { clientWidth, clientHeight } = at("picture"), isWhole = fitted;
-  if (clientWidth === wide && clientHeight === high) return;
+  const { wide, high } = windowSize();
+  if (wide === now.view.wide && high === now.view.high) return;
   showAgain();
-  if (isWhole) reshaped();
+  put("form", formOf());
 }
 
 /**
@@ -104,9 +105,8 @@ function refresh() {
  * @param {boolean} isGesture
  */
 export function zoom(by, point, isGesture = false) {
-  fitted = null;
   const pixels = bounded(scale() * by), { x, y } = point ?? middleOfRoom(freePart());
-  const [right, down] = [x - wide / 2, y - high / 2];
+  const [right, down] = [x - now.view.wide / 2, y - now.view.high / 2];
   show(middle().x + right / scale() - right / pixels, middle().y + down / scale() - down / pixels, pixels, isGesture);
 }
 
@@ -117,18 +117,18 @@ export function zoom(by, point, isGesture = false) {
  * @param {boolean} isGesture
  */
 export function move(right, down, isGesture = false) {
-  fitted = null;
   show(middle().x + right / scale(), middle().y + down / scale(), scale(), isGesture);
 }
 
 /**
  * Returns a part of the window, or the one that nothing covers, in units of the picture.
  * @param {import("./room.js").Room} part
+ * @param {View} view
  * @returns {Box}
  */
-export function freeBox({ left, top, right, bottom } = freePart()) {
-  const by = scale();
-  return { x: seen.x + left / by, y: seen.y + top / by, width: (right - left) / by, height: (bottom - top) / by };
+export function freeBox({ left, top, right, bottom } = freePart(), { box: { x, y, width }, wide } = now.view) {
+  const by = wide / width;
+  return { x: x + left / by, y: y + top / by, width: (right - left) / by, height: (bottom - top) / by };
 }
 
 /**
@@ -136,11 +136,11 @@ export function freeBox({ left, top, right, bottom } = freePart()) {
  * @param {number} x
  * @param {number} y
  * @param {number} pixels
+ * @param {Box | null} fitted
  */
-function showFree(x, y, pixels) {
-  const { left, top, right, bottom } = freePart(), by = bounded(pixels);
-  const { clientWidth, clientHeight } = at("picture");
-  show(x + (clientWidth - left - right) / 2 / by, y + (clientHeight - top - bottom) / 2 / by, by);
+function showFree(x, y, pixels, fitted = null) {
+  const { left, top, right, bottom } = freePart(), { wide, high } = windowSize(), by = bounded(pixels);
+  show(x + (wide - left - right) / 2 / by, y + (high - top - bottom) / 2 / by, by, false, fitted);
 }
 
 /**
@@ -151,17 +151,16 @@ export function keepFree(change) {
   settle();
   const before = freePart();
   change();
-  const now = freePart();
-  if (isRoomy(now) && (now.bottom !== before.bottom || now.right !== before.right)) showAgain();
+  const free = freePart();
+  if (isRoomy(free) && (free.bottom !== before.bottom || free.right !== before.right)) showAgain();
 }
 
 /** @param {Box} box is shown whole, in the free part, with room for labels beside it */
 export function fit(box) {
   const { x, y, width, height } = box;
-  fitted = box;
   const { left, top, right, bottom } = freePart(), aside = right - left > 5 * ASIDE ? 2 * ASIDE : 0;
   const pixels = Math.min((right - left - aside) / Math.max(width, 1), (bottom - top) / Math.max(height, 1));
-  showFree(x + width / 2, y + height / 2, Math.min(MOST_FITTED, pixels));
+  showFree(x + width / 2, y + height / 2, Math.min(MOST_FITTED, pixels), box);
 }
 
 /**
@@ -180,12 +179,4 @@ export function reveal({ x, y, width, height }) {
   if (Math.hypot(right, down) > SEEN) move(-right, -down);
 }
 
-/**
- * @param {(isGliding?: boolean) => unknown} tell is called after each change of the view, and told whether what is drawn only glides
- * @param {() => unknown} reshape is called after the window has another form, if all was fitted to it
- */
-export function beginView(tell, reshape) {
-  told = tell;
-  reshaped = reshape;
-  new ResizeObserver(refresh).observe(at("picture"));
-}
+export const beginView = () => new ResizeObserver(refresh).observe(at("picture"));

@@ -9,43 +9,30 @@
  *   seconds: import("./best.js").BestSeconds | null, pairs: LostPair[] | null, losses: Record<string, string>, last: number }} Worth
  *   `losses` are those of all arcs, or the largest, by the arcs' numbers, of which `last` is the highest
  */
+import { Requests } from "./asking.js";
 import { markBestOld, showBest } from "./best.js";
 import { arcButton, pick, pickPlace } from "./choice.js";
 import { at, cell, fill, numberCell } from "./elements.js";
-import { colourByLoss } from "./legend.js";
 import { ask, caption, noun, present, units, wording } from "./state.js";
+import { put } from "./store.js";
 import { grouped, upper } from "./words.js";
 
 /** The first and the longest pause before the board is asked again, in milliseconds. */
 const SOON = 20, LATE = 2000;
 /** What is said of numbers that a change has made old. */
 const OLD = "These are from before the change. The new ones are being found ..";
-let asked = 0;
-/** Whether the search in the present state has told what it can. */
-let isTold = false;
-/** @type {(() => unknown)[]} */
-const watchers = [];
-
-/**
- * Calls `watcher` when it becomes known.
- * @param {() => unknown} watcher
- */
-export function watchWorth(watcher) {
-  watchers.push(watcher);
-}
+const requests = new Requests();
 
 /** Asks for it after a new state. Until it comes, the old numbers stay, marked as old, and nothing waits for it. */
 export function findWorth() {
-  asked += 1;
+  const isLatest = requests.begin();
   markOld(true);
-  follow(asked);
+  follow(isLatest);
 }
-
-export const isWorthTold = () => isTold;
 
 /** @param {boolean} isOld */
 function markOld(isOld) {
-  isTold = !isOld;
+  put("isWorthTold", !isOld);
   at("worst").classList.toggle("old", isOld);
   if (!isOld) return;
   markBestOld(OLD);
@@ -55,15 +42,15 @@ function markOld(isOld) {
   at("worst-pairs-note").textContent = "";
 }
 
-/** @param {number} turn */
-async function follow(turn) {
+/** @param {() => boolean} isLatest */
+async function follow(isLatest) {
   let isFinding = true, isShown = false;
   for (let pause = SOON; isFinding; pause = Math.min(2 * pause, LATE)) {
     await new Promise((go) => setTimeout(go, pause));
-    if (turn !== asked) return;
+    if (!isLatest()) return;
     /** @type {Worth | null | undefined} */
     const told = await ask("worth", undefined, true);
-    if (turn !== asked || !told) return;
+    if (!isLatest() || !told) return;
     isFinding = told.is_finding;
     if (!told.losses) continue;
     if (!isShown) show(told);
@@ -81,8 +68,7 @@ function show(told) {
   const { worst, more } = told.places;
   showTable("worst-places", wording().place, wording().without, more, worst.map((place) => ({ ...place, cell: pickPlace(place) })));
   const losses = new Map(Object.entries(told.losses).map(([number, loss]) => [Number(number), Number(loss)]));
-  colourByLoss(losses, told.worst.length + told.more - [...losses.values()].filter(Boolean).length, told.last);
-  for (const watcher of watchers) watcher();
+  put("losses", { byNumber: losses, others: told.worst.length + told.more - [...losses.values()].filter(Boolean).length, last: told.last });
 }
 
 /**
