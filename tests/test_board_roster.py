@@ -2,7 +2,9 @@
 
 from __future__ import annotations
 
+import csv
 import re
+from collections import Counter
 from pathlib import Path
 from typing import Any
 from xml.etree import ElementTree
@@ -10,7 +12,7 @@ from xml.etree import ElementTree
 import pytest
 from board_pages import Page, told_loss
 from board_running import board
-from board_views import SVG
+from board_views import SVG, spots
 from desk_shared import ROOT
 from test_board_access import as_before, show
 
@@ -83,6 +85,23 @@ def test_words(driver: Any) -> None:
         page.wait(lambda: page.fact("Staffed") == "8 of 8")
         judge_words(page)
         as_before(driver)
+
+
+def test_columns() -> None:
+    """People, their days and the shifts stand in a column each, in this order, in a window that is
+    wider than high."""
+    with open(ROTA[0], newline="") as table:
+        titles, _, *people = csv.reader(table)
+    shifts = titles[2:]
+    days = {
+        (row[0], title.split()[0]) for row in people for title, cell in zip(shifts, row[2:]) if cell
+    }
+    with board(*ROTA) as it:
+        lie = [(float(x), float(y)) for x, y in spots(it).values()]
+    columns = Counter(x for x, _ in lie)
+    assert [columns[x] for x in sorted(columns)] == [len(people), len(days), len(shifts)]
+    wide, high = (max(side) - min(side) for side in zip(*lie))
+    assert 1 < wide / high < 2
 
 
 # The words of networks that no part of the panel has for a roster, where it lists nothing.

@@ -9,7 +9,7 @@ from __future__ import annotations
 import json
 import math
 import re
-from collections import defaultdict, deque
+from collections import Counter, defaultdict, deque
 from collections.abc import Collection, Iterable, Iterator, Mapping, Sequence
 from dataclasses import dataclass, field
 from typing import NamedTuple
@@ -25,6 +25,9 @@ FARTHER = 0.5, 2.0, 8.0
 # their height, or the reverse, with more places; the most places for which layers are tried, which
 # takes long; and the forces that spread out all others.
 MOST_LAYERED, MOST_LONG, MOST_TRIED = 40, 2.3, 400
+# The most layers, and the most places in one of them, of a network that any window shows in layers,
+# as it does a roster's people, their days and the shifts.
+FEW_LAYERS, MOST_BESIDE = 4, 25
 FORCES = "K=1; repulsiveforce=1.4; smoothing=triangle; overlap=true"
 # The ratio of a window's width to its height, if it is not known; the most by which a picture is
 # stretched to it; up to which ratio of their forms a picture fits a window as it is; and up to
@@ -131,15 +134,18 @@ class Places:
     def _put_apart(self, new: list[int], ways: list[Way], text: str) -> str:
         """Put places, none of which is known yet, as Graphviz does best, beside those that are
         known."""
-        if len(new) > MOST_TRIED:
-            found, drawn = Places(spread_out(text, ways, self.sources, self.form)), ""
+        layers = _layered(text, self.form) if len(new) <= MOST_TRIED else None
+        has_few = layers is not None and _has_few_layers(layers[0].spots.values())
+        if layers and (
+            has_few or len(new) <= MOST_LAYERED or _misfit(layers[0], self.form) <= MOST_LONG
+        ):
+            found, drawn = layers
         else:
-            found, drawn = _layered(text, self.form)
-        if MOST_LAYERED < len(new) <= MOST_TRIED and _misfit(found, self.form) > MOST_LONG:
             found, drawn = Places(spread_out(text, ways, self.sources, self.form)), ""
         # What was spread out is longer again where places that overlapped were moved apart.
-        if _misfit(found, self.form) > FITS:
-            found, drawn = Places(_stretched(found.spots, self.form)), ""
+        if (misfit := _misfit(found, self.form)) > FITS:
+            most = misfit if has_few else MOST_STRETCHED
+            found, drawn = Places(_stretched(found.spots, self.form, most)), ""
         right = max((spot.x for spot in self.spots.values()), default=-APART)
         left = min((spot.x for spot in found.spots.values()), default=0.0)
         by = right + APART - left if self.spots else 0.0
@@ -285,10 +291,21 @@ def _drawn_layers(text: str) -> tuple[Places, str]:
     return found, drawn
 
 
-def _stretched(spots: Mapping[int, Spot], form: float) -> dict[int, Spot]:
-    """Return spots further apart, upwards or to the right, towards the form of a window."""
+def _has_few_layers(spots: Iterable[Spot]) -> bool:
+    """Return True if these places lie in a few columns or rows, with not too many in one."""
+    listed = list(spots)
+    layers = [Counter(round(spot[axis]) for spot in listed) for axis in (0, 1)]
+    return any(
+        len(counts) <= FEW_LAYERS and max(counts.values(), default=0) <= MOST_BESIDE
+        for counts in layers
+    )
+
+
+def _stretched(spots: Mapping[int, Spot], form: float, most: float) -> dict[int, Spot]:
+    """Return spots at most this many times further apart, upwards or to the right, towards the form
+    of a window."""
     by = _form(spots.values()) / form
-    right, up = (min(MOST_STRETCHED, max(1.0, factor)) for factor in (1 / by, by))
+    right, up = (min(most, max(1.0, factor)) for factor in (1 / by, by))
     return {
         node: Spot(round(spot.x * right, 2), round(spot.y * up, 2)) for node, spot in spots.items()
     }
