@@ -97,7 +97,7 @@ def test_each_part_has_one_owner(store: str) -> None:
     assert len(described) == len({*described})
 
 
-def test_no_circles() -> None:
+def test_no_cycles() -> None:
     imported = {name: set(IMPORTED.findall(script)) for name, script in SCRIPTS.items()}
     assert len([*graphlib.TopologicalSorter(imported).static_order()]) == len(SCRIPTS)
     assert sum(map(len, imported.values())) > 4 * len(SCRIPTS)
