@@ -15,8 +15,8 @@
  * starts a thread, and none may be made from a signal handler. After a fork each process has its own copy of the session; if
  * other threads were running, the child must not make any call, since it must not call malloc.
  * Time.  A solve may take long, and so may cap, close and shut if the flow runs over many paths, steps over many states, the
- * losses, gains, and a maximum flow. Every other call looks at each arc a few times at most. Only dmf_session_solve_until can
- * be stopped before it is done.
+ * losses, gains, and a maximum flow. Every other call looks at each arc a few times at most. Another thread can end a call whose
+ * name ends with _until, by a dmf_stop, and no other call.
  * Memory.  A session takes some 35 bytes an arc, 80 after its first solve, and 110 after the first change that takes flow
  * off. Any call below may answer DMF_NO_MEMORY unless a comment says that it takes none; then free something and try again.
  * Limits.  2 to 16,777,216 nodes, up to 134,217,728 arcs, closed ones counted. The capacities add up to at most 2^64 - 1.
@@ -133,7 +133,7 @@ static inline const char *dmf_fault_text(int fault)
 /* A session. What it holds is private. */
 typedef struct dmf_session dmf_session;
 
-/* A hold of a flag by which one thread ends the solves of others. Each thread has a stop of its own. */
+/* A hold of a flag by which one thread ends the long calls of others. Each thread has a stop of its own. */
 typedef struct dmf_stop dmf_stop;
 
 /* The version of the library, which may be newer than DMF_VERSION: 10,000 times the first number, 100 times the second, and
@@ -196,7 +196,7 @@ enum dmf_status dmf_session_solve(dmf_session *session);
  * it was, with its history. The flag is looked at before the solve, and after each augmenting path. It stays raised. */
 enum dmf_status dmf_session_solve_until(dmf_session *session, dmf_stop *stop);
 
-/* ---- Flags, which end a solve from another thread ------------------------------------------------------------------------- */
+/* ---- Flags, which end a call from another thread -------------------------------------------------------------------------- */
 
 /* Makes a flag, which is not raised, and a stop that holds it. On DMF_OK *stop is the new stop, otherwise it is unchanged. */
 enum dmf_status dmf_stop_new(dmf_stop **stop);
@@ -340,6 +340,33 @@ enum dmf_status dmf_session_new_arc_gains(const dmf_session *session, const uint
                                           const uint32_t *heads, size_t head_count,
                                           const uint64_t *capacities, size_t capacity_count,
                                           uint64_t *gains, size_t gain_count);
+
+/* Each does the same as the call without _until in its name, unless the flag of `stop` is raised before it is done. Then the answer
+ * is DMF_STOPPED, and nothing is written. The flag is looked at before each arc, node or pair is valued, and it stays raised.
+ * DMF_BAD_LENGTH, DMF_NO_SUCH_ARC, DMF_NO_SUCH_NODE and DMF_NOT_GREATEST are answered whether or not it is raised. If there is
+ * nothing to value, the answer may be DMF_OK although it is raised. */
+enum dmf_status dmf_session_arc_losses_until(const dmf_session *session, const uint32_t *arcs, size_t arc_count,
+                                             uint64_t *losses, size_t loss_count, dmf_stop *stop);
+enum dmf_status dmf_session_node_losses_until(const dmf_session *session, const uint32_t *nodes, size_t node_count,
+                                              uint64_t *losses, size_t loss_count, dmf_stop *stop);
+enum dmf_status dmf_session_pair_losses_until(const dmf_session *session, const uint32_t *firsts, size_t first_count,
+                                              const uint32_t *seconds, size_t second_count,
+                                              uint64_t *losses, size_t loss_count, dmf_stop *stop);
+enum dmf_status dmf_session_worst_arcs_until(const dmf_session *session, const uint8_t *among, size_t among_count,
+                                             uint32_t *arcs, size_t arc_count,
+                                             uint64_t *losses, size_t loss_count, size_t *found, dmf_stop *stop);
+enum dmf_status dmf_session_worst_nodes_until(const dmf_session *session, uint32_t *nodes, size_t node_count,
+                                              uint64_t *losses, size_t loss_count, size_t *found, dmf_stop *stop);
+enum dmf_status dmf_session_worst_pairs_until(const dmf_session *session, const uint8_t *among, size_t among_count,
+                                              uint32_t *firsts, size_t first_count,
+                                              uint32_t *seconds, size_t second_count,
+                                              uint64_t *losses, size_t loss_count, size_t *found, dmf_stop *stop);
+enum dmf_status dmf_session_second_gains_until(const dmf_session *session, const uint32_t *arcs, size_t arc_count,
+                                               uint64_t *gains, size_t gain_count, dmf_stop *stop);
+enum dmf_status dmf_session_new_arc_gains_until(const dmf_session *session, const uint32_t *tails, size_t tail_count,
+                                                const uint32_t *heads, size_t head_count,
+                                                const uint64_t *capacities, size_t capacity_count,
+                                                uint64_t *gains, size_t gain_count, dmf_stop *stop);
 
 /* Judges `count` flows, one for each arc, of the present network; the session's own flow does not matter. DMF_OK: they are a
  * maximum flow. DMF_OVER_CAPACITY: *place is the number of the first arc with too much. DMF_NOT_CONSERVED: *place is the number

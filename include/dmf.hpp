@@ -239,8 +239,9 @@ struct closer {
 
 } // namespace detail
 
-/// A hold of a flag by which one thread ends the solves of others. A copy holds the same flag. Each thread needs a copy of its
-/// own; after a move, the old one may only be assigned to or destroyed.
+/// A hold of a flag by which one thread ends the long calls of others: those that take a stop as their last argument. They throw
+/// error with stopped if it is raised before they are done. A copy holds the same flag. Each thread needs a copy of its own; after a
+/// move, the old one may only be assigned to or destroyed.
 class stop {
 public:
     /// Makes a flag that is not raised. Throws std::bad_alloc.
@@ -262,7 +263,7 @@ public:
     stop &operator=(stop &&other) noexcept = default;
     ~stop() = default;
 
-    /// Raises the flag, which ends each solve that looks at it.
+    /// Raises the flag, which ends each call that looks at it.
     void raise() noexcept { dmf_stop_raise(get()); }
 
     /// Takes the flag down.
@@ -496,6 +497,12 @@ public:
         detail::expect_ok(dmf_session_arc_losses(live(), arcs.data(), arcs.size(), into.data(), into.size()));
     }
 
+    /// Does the same, unless the flag is raised before all losses are found. Then throws error with stopped.
+    void arc_losses(span<const std::uint32_t> arcs, span<std::uint64_t> into, stop &until) const {
+        detail::expect_ok(
+            dmf_session_arc_losses_until(live(), arcs.data(), arcs.size(), into.data(), into.size(), until.get()));
+    }
+
     /// Returns what nodes are worth: at index k how much less the greatest value is if only the arcs at node nodes[k] are closed,
     /// and 0 for the source and the sink. May take long. Throws as arc_losses() does, with no_such_node.
     [[nodiscard]] std::vector<std::uint64_t> node_losses(span<const std::uint32_t> nodes) const {
@@ -514,6 +521,12 @@ public:
         detail::expect_ok(dmf_session_node_losses(live(), nodes.data(), nodes.size(), into.data(), into.size()));
     }
 
+    /// Does the same, unless the flag is raised before all losses are found. Then throws error with stopped.
+    void node_losses(span<const std::uint32_t> nodes, span<std::uint64_t> into, stop &until) const {
+        detail::expect_ok(
+            dmf_session_node_losses_until(live(), nodes.data(), nodes.size(), into.data(), into.size(), until.get()));
+    }
+
     /// Returns what two arcs are worth together: at index k how much less the greatest value is if only arcs firsts[k] and
     /// seconds[k] are closed. May take long. Throws as arc_losses() does, and error with bad_length or no_such_arc.
     [[nodiscard]] std::vector<std::uint64_t> pair_losses(span<const std::uint32_t> firsts,
@@ -529,6 +542,13 @@ public:
                                                   into.data(), into.size()));
     }
 
+    /// Does the same, unless the flag is raised before all losses are found. Then throws error with stopped.
+    void pair_losses(span<const std::uint32_t> firsts, span<const std::uint32_t> seconds, span<std::uint64_t> into,
+                     stop &until) const {
+        detail::expect_ok(dmf_session_pair_losses_until(live(), firsts.data(), firsts.size(), seconds.data(),
+                                                        seconds.size(), into.data(), into.size(), until.get()));
+    }
+
     /// Writes the arcs whose loss is greatest and their losses, the greatest first, into arrays of the same length. Returns
     /// how many are written: as many as there is room for, or all arcs. If `among` is given, it has an element for each arc,
     /// and arc j is listed only if among[j - 1] is not 0. Throws as arc_losses() does, and error with bad_length.
@@ -540,10 +560,27 @@ public:
         return found;
     }
 
+    /// Does the same, unless the flag is raised before the list is found. Then throws error with stopped.
+    std::size_t worst_arcs(span<std::uint32_t> arcs, span<std::uint64_t> losses, span<const std::uint8_t> among,
+                           stop &until) const {
+        std::size_t found = 0;
+        detail::expect_ok(dmf_session_worst_arcs_until(live(), among.data(), among.size(), arcs.data(), arcs.size(),
+                                                       losses.data(), losses.size(), &found, until.get()));
+        return found;
+    }
+
     /// Writes the nodes other than the source and the sink whose loss is greatest, as worst_arcs() writes arcs.
     std::size_t worst_nodes(span<std::uint32_t> nodes, span<std::uint64_t> losses) const {
         std::size_t found = 0;
         detail::expect_ok(dmf_session_worst_nodes(live(), nodes.data(), nodes.size(), losses.data(), losses.size(), &found));
+        return found;
+    }
+
+    /// Does the same, unless the flag is raised before the list is found. Then throws error with stopped.
+    std::size_t worst_nodes(span<std::uint32_t> nodes, span<std::uint64_t> losses, stop &until) const {
+        std::size_t found = 0;
+        detail::expect_ok(dmf_session_worst_nodes_until(live(), nodes.data(), nodes.size(), losses.data(), losses.size(),
+                                                        &found, until.get()));
         return found;
     }
 
@@ -553,6 +590,16 @@ public:
         std::size_t found = 0;
         detail::expect_ok(dmf_session_worst_pairs(live(), among.data(), among.size(), firsts.data(), firsts.size(),
                                                   seconds.data(), seconds.size(), losses.data(), losses.size(), &found));
+        return found;
+    }
+
+    /// Does the same, unless the flag is raised before the list is found. Then throws error with stopped.
+    std::size_t worst_pairs(span<std::uint32_t> firsts, span<std::uint32_t> seconds, span<std::uint64_t> losses,
+                            span<const std::uint8_t> among, stop &until) const {
+        std::size_t found = 0;
+        detail::expect_ok(dmf_session_worst_pairs_until(live(), among.data(), among.size(), firsts.data(), firsts.size(),
+                                                        seconds.data(), seconds.size(), losses.data(), losses.size(),
+                                                        &found, until.get()));
         return found;
     }
 
@@ -570,6 +617,12 @@ public:
         detail::expect_ok(dmf_session_second_gains(live(), arcs.data(), arcs.size(), into.data(), into.size()));
     }
 
+    /// Does the same, unless the flag is raised before all gains are found. Then throws error with stopped.
+    void second_gains(span<const std::uint32_t> arcs, span<std::uint64_t> into, stop &until) const {
+        detail::expect_ok(
+            dmf_session_second_gains_until(live(), arcs.data(), arcs.size(), into.data(), into.size(), until.get()));
+    }
+
     /// Returns what a new arc would bring: at index k how much greater the greatest value is if only an arc from tails[k] to
     /// heads[k] of capacity capacities[k] is added. May take long. Throws as second_gains() does, and error with bad_length or
     /// no_such_node instead of no_such_arc.
@@ -585,6 +638,14 @@ public:
                        span<const std::uint64_t> capacities, span<std::uint64_t> into) const {
         detail::expect_ok(dmf_session_new_arc_gains(live(), tails.data(), tails.size(), heads.data(), heads.size(),
                                                     capacities.data(), capacities.size(), into.data(), into.size()));
+    }
+
+    /// Does the same, unless the flag is raised before all gains are found. Then throws error with stopped.
+    void new_arc_gains(span<const std::uint32_t> tails, span<const std::uint32_t> heads,
+                       span<const std::uint64_t> capacities, span<std::uint64_t> into, stop &until) const {
+        detail::expect_ok(dmf_session_new_arc_gains_until(live(), tails.data(), tails.size(), heads.data(), heads.size(),
+                                                          capacities.data(), capacities.size(), into.data(), into.size(),
+                                                          until.get()));
     }
 
     /// Judges flows, one for each arc, as flows of the present network; the session's own flow does not matter. A wrong

@@ -10,6 +10,7 @@ from collections.abc import Iterable, Sequence
 from ctypes import byref, c_size_t, c_uint8, c_uint32, c_uint64, c_void_p
 from pathlib import Path
 from random import Random
+from typing import Any
 
 from c_arrays import ODD, ODD_NUMBER, array_of, odd_array
 
@@ -270,6 +271,10 @@ class CSession:
         flows, side = (tuple(map(int, place))[:-1] for place in places)
         return value.value, flows, side
 
+    def _question(self, name: str) -> Any:
+        """Return the call that answers a question which may take long."""
+        return getattr(self.calls, f"dmf_session_{name}")
+
     def losses(self, part: str, numbers: Sequence[int], count: int) -> tuple[int, ...]:
         """Return what dmf_session_PART_losses puts into an array of this length for the arcs or the
         nodes of these numbers. Arrays of length 0 are NULL. The place after the last stays, and a
@@ -310,8 +315,8 @@ class CSession:
             for kind, column in columns
             for part in (array_of(kind, column), c_size_t(len(column)))
         ]
-        call = getattr(self.calls, f"dmf_session_{name}")
-        status = call(self.session, *given, places if count else None, c_size_t(count))
+        places_or_none = places if count else None
+        status = self._question(name)(self.session, *given, places_or_none, c_size_t(count))
         assert bytes(places)[8 * count :] == before[8 * count :]
         assert status == 0 or bytes(places) == before
         want(status)
@@ -331,9 +336,8 @@ class CSession:
             for place, length in zip(places, lengths)
             for part in (place if length else None, c_size_t(length))
         ]
-        call = getattr(self.calls, f"dmf_session_worst_{parts}")
         marks = [] if parts == "nodes" else [array_of(c_uint8, among), c_size_t(len(among))]
-        status = call(self.session, *marks, *columns, byref(found))
+        status = self._question(f"worst_{parts}")(self.session, *marks, *columns, byref(found))
         assert status == 0 or found.value == ODD_NUMBER
         written = found.value if status == 0 else 0
         for kind, place, odd in zip(kinds, places, before):

@@ -350,6 +350,47 @@ void stopping() {
     EXPECT(session.value() == 5 && session.past() == 2);
 }
 
+// A raised flag also ends each question that takes a stop, and nothing is written. Otherwise the answer is that of the plain call.
+void stopping_questions() {
+    dmf::session session = example();
+    session.cap(5, 1);
+    session.solve();
+    dmf::stop stop, raised;
+    raised.raise();
+    const std::array<std::uint32_t, 2> arcs{4, 5}, tails{3, 1}, heads{4, 4};
+    const std::array<std::uint64_t, 2> capacities{9, 5};
+    std::array<std::uint32_t, 2> first{9, 9}, second{9, 9};
+    std::array<std::uint64_t, 2> found{9, 9};
+    REFUSED(stopped, session.arc_losses(arcs, found, raised));
+    REFUSED(stopped, session.node_losses(heads, found, raised));
+    REFUSED(stopped, session.pair_losses(arcs, tails, found, raised));
+    REFUSED(stopped, (void)session.worst_arcs(first, found, {}, raised));
+    REFUSED(stopped, (void)session.worst_nodes(first, found, raised));
+    REFUSED(stopped, (void)session.worst_pairs(first, second, found, {}, raised));
+    REFUSED(stopped, session.second_gains(arcs, found, raised));
+    REFUSED(stopped, session.new_arc_gains(tails, heads, capacities, found, raised));
+    REFUSED(bad_length, session.arc_losses({4, 5, 1}, found, raised));
+    EXPECT(first[0] == 9 && second[0] == 9 && found == std::array<std::uint64_t, 2>{9, 9});
+    // Of the three that arrive, arc 4 brings two from node 2, and arc 5 one.
+    session.arc_losses(arcs, found, stop);
+    EXPECT(found == std::array<std::uint64_t, 2>{2, 1});
+    session.node_losses({3, 2}, found, stop);
+    EXPECT(found == std::array<std::uint64_t, 2>{1, 2});
+    session.pair_losses(arcs, {5, 5}, found, stop);
+    EXPECT(found == std::array<std::uint64_t, 2>{3, 1});
+    EXPECT(session.worst_arcs(first, found, {0, 1, 0, 1, 1}, stop) == 2);
+    EXPECT(first == std::array<std::uint32_t, 2>{4, 5} && found == std::array<std::uint64_t, 2>{2, 1});
+    EXPECT(session.worst_nodes(first, found, stop) == 2);
+    EXPECT(first == std::array<std::uint32_t, 2>{2, 3} && found == std::array<std::uint64_t, 2>{2, 1});
+    EXPECT(session.worst_pairs(first, second, found, {}, stop) == 2 && found == std::array<std::uint64_t, 2>{3, 3});
+    EXPECT(first == std::array<std::uint32_t, 2>{1, 1} && second == std::array<std::uint32_t, 2>{2, 5});
+    session.second_gains(arcs, found, stop);
+    EXPECT(found == std::array<std::uint64_t, 2>{1, 1});
+    session.new_arc_gains(tails, heads, capacities, found, stop);
+    EXPECT(found == std::array<std::uint64_t, 2>{2, 5});
+    EXPECT(session.value() == 3 && session.past() == 2);
+}
+
 // The arrays of a network without arcs may lie nowhere.
 void without_arcs() {
     dmf::session session(2, 1, 2, {}, std::vector<std::uint32_t>(), {nullptr, 0});
@@ -378,6 +419,7 @@ int main() {
     finding();
     owning();
     stopping();
+    stopping_questions();
     without_arcs();
     EXPECT(dmf::abi() == DMF_ABI && dmf::version() == dmf_version());
     for (int number : {-1, DMF_STOPPED + 1})

@@ -51,9 +51,6 @@ int main() {
     count += is_refused([&] { session.new_arc_gains({1, 2}, {3, 3}, {4, 4}, {of_arcs.data(), 2}); });
     std::vector<std::uint8_t> marks(4, 9);
     count += is_refused([&] { session.maximum_flow(of_arcs, marks); });
-    const bool unwritten = of_arcs == std::vector<std::uint64_t>(5, 9) && of_nodes == std::vector<std::uint64_t>(4, 9) &&
-                           marks == std::vector<std::uint8_t>(4, 9) && firsts == std::vector<std::uint32_t>(5, 9) &&
-                           seconds == std::vector<std::uint32_t>(5, 9);
     count += is_refused([&] { (void)session.problem(); });
     count += is_refused([&] { (void)session.solution(); });
     count += is_refused([&] { (void)session.check({3, 2, 1, 2, 3}); });
@@ -61,5 +58,16 @@ int main() {
     dmf::stop stop;
     count += is_refused([&] { (void)dmf::stop(stop); });
     count += is_refused([&] { session.solve(stop); });
+    count += is_refused([&] { session.arc_losses({1, 2, 3, 4, 5}, of_arcs, stop); });
+    count += is_refused([&] { session.node_losses({1, 2, 3, 4}, of_nodes, stop); });
+    count += is_refused([&] { session.pair_losses({1, 2}, {3, 3}, {of_arcs.data(), 2}, stop); });
+    count += is_refused([&] { (void)session.worst_arcs(firsts, of_arcs, {}, stop); });
+    count += is_refused([&] { (void)session.worst_nodes({firsts.data(), 4}, of_nodes, stop); });
+    count += is_refused([&] { (void)session.worst_pairs(firsts, seconds, of_arcs, {}, stop); });
+    count += is_refused([&] { session.second_gains({1, 2}, {of_arcs.data(), 2}, stop); });
+    count += is_refused([&] { session.new_arc_gains({1, 2}, {3, 3}, {4, 4}, {of_arcs.data(), 2}, stop); });
+    const bool unwritten = of_arcs == std::vector<std::uint64_t>(5, 9) && of_nodes == std::vector<std::uint64_t>(4, 9) &&
+                           marks == std::vector<std::uint8_t>(4, 9) && firsts == std::vector<std::uint32_t>(5, 9) &&
+                           seconds == std::vector<std::uint32_t>(5, 9);
     std::cout << count << (unsolved && unwritten && session.value() == 5 && session.past() == 1 ? "\n" : " and a change\n");
 }

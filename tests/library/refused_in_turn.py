@@ -15,9 +15,9 @@ from random import Random
 import random_cases
 from c_library import COMMANDS, NO_MEMORY, CSession, Library, library_folder, want
 from c_losses import NewArc
-from c_questions import Refusal, answer_of, question
+from c_questions import Question, Refusal, answer_of, question
 from c_sessions import CODES, Step, compare, moved_rows, random_step, wanted_status
-from c_stops import Stop
+from c_stops import QUESTIONS, Stop, Stoppable
 from oracle.network import State
 from oracle.problem import problem_text
 from oracle.session import Session, SolveReply
@@ -92,6 +92,17 @@ def solve_until(library: Library, heap: Heap, given: CSession) -> object:
     return answer
 
 
+def ask(library: Library, heap: Heap, given: CSession, asked: Question, random: Random) -> object:
+    """Ask a question by its call, or by that with a stop whose flag is not raised."""
+    name, session = asked.call, given
+    stop = Stop(library)
+    if name in QUESTIONS and random.random() < 0.5:
+        name, session = f"{name}_until", Stoppable(given, stop)
+    answer = heap.in_turn(name, lambda: asked.ask(session), given.state)
+    stop.set("free")
+    return answer
+
+
 def take(library: Library, heap: Heap, given: CSession, step: Step, random: Random) -> object:
     """Take a step by its own call, or as a batch of one command; a solve also with a stop."""
     if step.word == "solve" and random.random() < 0.5:
@@ -139,7 +150,7 @@ def play(library: Library, heap: Heap, random: Random) -> None:
             assert moved == moved_answer(wanted), moved
             judge_copy(heap, given, wanted)
             asked = question(wanted.present(), random)
-            answer = heap.in_turn(asked.call, lambda: asked.ask(given), given.state)
+            answer = ask(library, heap, given, asked, random)
             assert answer == asked.answer, (asked, answer)
     assert heap.blocks() == blocks
 

@@ -1,4 +1,4 @@
-/* Four threads, each with a session of its own, on the network of examples/a.max: of the 5 that arrive, 2 are left without arc 1. Prints how
+/* Four threads, each with a session and a stop of its own, on the network of examples/a.max: of the 5 that arrive, 2 are left without arc 1. Prints how
  * many threads found that in each round. With -DSHARED all of them use one session, one after the other, and nothing says that they wait
  * for each other, which dmf.h forbids. */
 #define _DEFAULT_SOURCE
@@ -19,8 +19,8 @@ static dmf_session *opened(void)
     return session;
 }
 
-/* Whether a round finds what it should; the session is then as it was. */
-static int round_is_right(dmf_session *session)
+/* Whether a round finds what it should; the session is then as it was. The flag of the stop is not raised. */
+static int round_is_right(dmf_session *session, dmf_stop *stop)
 {
     uint32_t worst;
     uint64_t loss, value, flows[ARCS], gain;
@@ -29,9 +29,9 @@ static int round_is_right(dmf_session *session)
     size_t found, length;
     if (dmf_session_solve(session) != DMF_OK || dmf_session_value(session) != 5)
         return 0;
-    if (dmf_session_worst_arcs(session, NULL, 0, &worst, 1, &loss, 1, &found) != DMF_OK || worst != 1 || loss != 3)
+    if (dmf_session_worst_arcs_until(session, NULL, 0, &worst, 1, &loss, 1, &found, stop) != DMF_OK || worst != 1 || loss != 3)
         return 0;
-    if (dmf_session_second_gains(session, &arc, 1, &gain, 1) != DMF_OK || gain != 0)
+    if (dmf_session_second_gains_until(session, &arc, 1, &gain, 1, stop) != DMF_OK || gain != 0)
         return 0;
     if (dmf_session_side(session, side, NODES) != DMF_OK || side[0] != 1 || side[1] != 0)
         return 0;
@@ -50,9 +50,11 @@ static void *play(void *shared)
 {
     static int yes;
     dmf_session *session = shared == NULL ? opened() : shared;
-    int right = session != NULL;
+    dmf_stop *stop = NULL;
+    int right = dmf_stop_new(&stop) == DMF_OK && session != NULL;
     for (int i = 0; i < ROUNDS && right; i++)
-        right = round_is_right(session);
+        right = round_is_right(session, stop);
+    dmf_stop_free(stop);
     if (shared == NULL)
         dmf_session_free(session);
     return right ? &yes : NULL;
