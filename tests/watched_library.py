@@ -18,6 +18,7 @@ from c_library import library_file
 from client_shared import environment
 from dmf.session import library as loaded
 from dmf.session import worker_threads
+from dmf.session.base import Ranked
 from limits import SECONDS
 
 # A network large enough that its calls run beside, whose solve takes a second on an idle processor:
@@ -64,36 +65,30 @@ def told_by(code: str, *words: str) -> str:
 
 @contextlib.contextmanager
 def slow_call(
-    monkeypatch: pytest.MonkeyPatch, word: str
+    monkeypatch: pytest.MonkeyPatch, name: str, ranked: Ranked | None = None
 ) -> Iterator[tuple[threading.Event, threading.Event]]:
-    """A block in which the next call of this command goes on until the second event comes, and
-    begins with the first. A solve in another thread also ends when its flag is raised."""
+    """A block in which the next call of this name begins with the first event, and goes on until
+    the second one comes or a flag is raised."""
     begun, until, raised = threading.Event(), threading.Event(), threading.Event()
     calls: Any = loaded.load(library_file())
-    at_once, solve_until, put_up = calls.commands[word], calls.solve_until, calls.stop_raise
+    where = calls.commands if name in calls.commands else vars(calls)
+    where, key = (where[name], ranked) if ranked else (where, name)
+    call, put_up = where[key], calls.stop_raise
 
-    def slow(*words: int) -> int:
-        if not begun.is_set():
-            begun.set()
-            until.wait(SECONDS)
-        return int(at_once(*words))
-
-    def slow_until(*words: int) -> int:
-        is_first = word == "solve" and not begun.is_set()
+    def slow(*words: Any) -> int:
+        is_first = not begun.is_set()
         begun.set()
         while is_first and not until.is_set() and not raised.wait(0.01):
             pass
-        return int(solve_until(*words))
+        return int(call(*words))
 
     def noted(stop: int) -> None:
         put_up(stop)
         raised.set()
 
     with monkeypatch.context() as patched:
-        patched.setitem(calls.commands, word, slow)
-        if word == "solve":
-            patched.setattr(calls, "solve_until", slow_until)
-            patched.setattr(calls, "stop_raise", noted)
+        patched.setitem(where, key, slow)
+        patched.setattr(calls, "stop_raise", noted)
         yield begun, until
         until.set()
 

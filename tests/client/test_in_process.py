@@ -20,23 +20,8 @@ from dmf.session.base import Ranked
 from dmf.session.library_batches import KINDS
 from dmf.session.statuses import NO_MEMORY, OK
 from limits import SECONDS
-from watched_library import GRID, counted, slow_call, told_by, wait_until_freed
+from watched_library import counted, slow_call, wait_until_freed
 
-BROKEN_OFF = (
-    GRID
-    + """
-from dmf.session.base import Ranked
-network = dmf.Network(grid(200), "s", "t")
-best = network.solve().value
-answers = interrupted_within(network._session.way.worst, Ranked.ARCS)
-try:
-    network.vital(top=5)
-except KeyboardInterrupt:
-    print(answers, network.value == best)
-print(network.undo(), network.redo() == best == dmf.value(grid(200), "s", "t"), flush=True)
-os._exit(0) if "now" in sys.argv else None
-"""
-)
 pytestmark = pytest.mark.usefixtures("by_library")
 
 
@@ -101,10 +86,9 @@ def test_a_sweep(bound: int) -> None:
 
 def test_another_thread_breaks_it_off(monkeypatch: pytest.MonkeyPatch, bound: int) -> None:
     """A call that runs beside is left at once; another one is left when it ends."""
-    with counted(monkeypatch) as freed, prepared() as network, slow_call(monkeypatch, "solve") as (
-        begun,
-        until,
-    ):
+    with counted(monkeypatch) as freed, prepared() as network, slow_call(
+        monkeypatch, "solve_until"
+    ) as (begun, until):
         said: list[str] = []
 
         def wait() -> None:
@@ -128,15 +112,6 @@ def test_another_thread_breaks_it_off(monkeypatch: pytest.MonkeyPatch, bound: in
                 network.solve()
         wait_until_freed(freed)
         assert network.begin_again() == network.value
-
-
-@pytest.mark.parametrize("how", ["now", "at the end"])
-@pytest.mark.seconds(6)
-def test_ctrl_c(how: str) -> None:
-    """A signal to a process of its own, while losses of 119,600 arcs are found, which takes several
-    times as long as a solve: it comes back at once, and the next call starts a new session. An
-    abandoned call keeps no interpreter from ending."""
-    assert told_by(BROKEN_OFF, how) == "[] True\n0 True\n"
 
 
 def test_one_call_needs_no_program(monkeypatch: pytest.MonkeyPatch, bound: int) -> None:

@@ -79,7 +79,7 @@ def test_the_session_goes_on(monkeypatch: pytest.MonkeyPatch, history: int | Non
     ) as other:
         session = network._session
         for _ in range(3):
-            with slow_call(monkeypatch, "solve") as (begun, _):
+            with slow_call(monkeypatch, "solve_until") as (begun, _):
                 with pytest.raises(KeyboardInterrupt), interrupted_when(begun.is_set):
                     network.solve()
             assert network._session is session and not network._is_broken
@@ -94,7 +94,7 @@ def test_a_flow_that_was_not_read(monkeypatch: pytest.MonkeyPatch) -> None:
     with prepared() as network, prepared(program=BUILT) as other:
         session, plan = network._session, network.solve()
         wanted = list(other.solve().values())
-        with slow_call(monkeypatch, "solve") as (begun, _):
+        with slow_call(monkeypatch, "solve_until") as (begun, _):
             with pytest.raises(KeyboardInterrupt), interrupted_when(begun.is_set):
                 network.solve()
         assert network._session is session and list(plan.values()) == wanted

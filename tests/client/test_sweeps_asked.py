@@ -4,7 +4,6 @@ implementation on the network of each case, and where something goes wrong meanw
 from __future__ import annotations
 
 import os
-import threading
 from collections.abc import Iterator
 from concurrent.futures import Future, ThreadPoolExecutor
 from contextlib import contextmanager
@@ -17,13 +16,13 @@ import strategies
 from c_losses import arcs_at, left
 from client_shared import BUILT, dmf, interrupted_when
 from dmf.session.base import Ranked
-from dmf.session.library import MOST_LOST_AT_ONCE, LibrarySession
+from dmf.session.library import MOST_AT_ONCE, LibrarySession
 from dmf.sweeps.case_losses import LOOK, Question, Seconds
 from hypothesis import HealthCheck, given, settings
 from hypothesis import strategies as st
-from limits import SECONDS
 from oracle.network import State
 from packages import load
+from watched_library import slow_call
 
 pytestmark = pytest.mark.usefixtures("by_library")
 distributed = load("distributed")
@@ -36,9 +35,9 @@ def asked(random: Random | None = None) -> Iterator[list[int]]:
     counts: list[int] = []
     look = LibrarySession._losses
 
-    def noting(session: Any, held: Any, ranked: Any, columns: Any) -> Any:
+    def noting(session: Any, held: Any, ranked: Any, columns: Any, flag: Any) -> Any:
         counts.append(len(columns[0]))
-        return look(session, held, ranked, columns)
+        return look(session, held, ranked, columns, flag)
 
     def is_asking_sooner(*_: object, **__: object) -> bool:
         return random is None or random.random() < 0.5
@@ -233,20 +232,13 @@ def test_pairs_that_have_an_arc_in_common() -> None:
     assert told.cases == [[(9, 1)], [(2, 3)], [(9, 4)], [(9, 2)], [(9, 1)]]
 
 
-# More arcs than the losses of are found in the caller's thread.
-CHAIN = [(at, at + 1, 1) for at in range(MOST_LOST_AT_ONCE + 1)]
+# More arcs than a call may look at in the caller's thread.
+CHAIN = [(at, at + 1, 1) for at in range(MOST_AT_ONCE + 1)]
 
 
 @pytest.mark.parametrize("how", ["Ctrl-C", "Ctrl-C here", "closed"])
 def test_a_stop(how: str, monkeypatch: pytest.MonkeyPatch) -> None:
     """It takes effect at once, while the library looks for losses."""
-    begun, until, ended = threading.Event(), threading.Event(), threading.Event()
-
-    def slow(*_: object) -> None:
-        begun.set()
-        until.wait(SECONDS)
-        ended.set()
-
     monkeypatch.setattr(Seconds, "is_asking_sooner", lambda *_, **__: True)
     threads = ThreadPoolExecutor(1)
     with dmf.Network(CHAIN, 0, len(CHAIN)) as network:
@@ -255,14 +247,13 @@ def test_a_stop(how: str, monkeypatch: pytest.MonkeyPatch) -> None:
         results = dmf.sweep(network, cases, None if how == "Ctrl-C here" else threads, jobs=1)
         if how == "closed":
             assert next(results).value == 0
-        monkeypatch.setattr(LibrarySession, "_losses", slow)
-        if how == "closed":
-            results.close()
-        else:
-            with pytest.raises(KeyboardInterrupt), interrupted_when(begun.is_set):
-                list(results)
-        assert not ended.is_set()
-        until.set()
+        with slow_call(monkeypatch, "losses", Ranked.ARCS) as (begun, until):
+            if how == "closed":
+                results.close()
+            else:
+                with pytest.raises(KeyboardInterrupt), interrupted_when(begun.is_set):
+                    list(results)
+            assert not until.is_set()
         monkeypatch.undo()
         assert network.solve().value == 1
     threads.shutdown(wait=False, cancel_futures=True)

@@ -7,7 +7,6 @@ from __future__ import annotations
 import os
 import subprocess
 import sys
-import threading
 from collections.abc import Iterable
 from concurrent.futures import ProcessPoolExecutor
 from decimal import Decimal
@@ -17,11 +16,11 @@ from typing import Any
 
 import pytest
 from client_shared import ROOT, dmf, environment, interrupted_when
-from dmf.session.library import MOST_LOST_AT_ONCE, LibrarySession
+from dmf.session.base import Ranked
 from dmf.sweeps import known_values
 from dmf.sweeps.copies import SolvedCopy
-from limits import SECONDS
 from packages import load
+from watched_library import slow_call
 
 networkx = load("networkx")
 pytestmark = pytest.mark.usefixtures("by_library")
@@ -243,11 +242,13 @@ def test_little_room() -> None:
             assert refused == [dmf.CapacitiesPast64Bits] * expected.count(None)
 
 
+# More arcs than those whose losses are found in the caller's thread.
+CHAIN = [(at, at + 1, 1) for at in range(1_001)]
 CHAINS = [
-    (dmf.each_arc_closed(), "_values_without", 0),
-    (dmf.each_node_shut(), "_values_without", 0),
-    (dmf.each_capacity_raised(1), "_gains", 1),
-    (dmf.each_pair_added([(at, at + 1) for at in range(MOST_LOST_AT_ONCE)], 1), "_gains", 1),
+    (dmf.each_arc_closed(), ("losses", Ranked.ARCS), 0),
+    (dmf.each_node_shut(), ("losses", Ranked.NODES), 0),
+    (dmf.each_capacity_raised(1), ("new_arc_gains", None), 1),
+    (dmf.each_pair_added([row[:2] for row in CHAIN[1:]], 1), ("new_arc_gains", None), 1),
 ]
 
 
@@ -255,32 +256,21 @@ CHAINS = [
 @pytest.mark.parametrize(
     ("asked", "call", "value"), CHAINS, ids=["closed", "shut", "raised", "added"]
 )
-def test_a_stop(asked: Any, call: str, value: int, monkeypatch: pytest.MonkeyPatch) -> None:
+def test_a_stop(
+    asked: Any, call: tuple[str, Ranked | None], value: int, monkeypatch: pytest.MonkeyPatch
+) -> None:
     """Ctrl-C while the library looks for the losses or gains takes effect at once, and the network
     is as it was."""
-    look = getattr(LibrarySession, call)
-    begun, until, ended = threading.Event(), threading.Event(), threading.Event()
-    # More arcs than the losses of are found in the caller's thread.
-    chain = [(at, at + 1, 1) for at in range(MOST_LOST_AT_ONCE + 1)]
-
-    def slow(*words: Any) -> Any:
-        begun.set()
-        until.wait(SECONDS)
-        ended.set()
-        return look(*words)
-
-    with dmf.Network(chain, 0, len(chain)) as network:
+    with dmf.Network(CHAIN, 0, len(CHAIN)) as network:
         assert network.solve().value == 1
-        with monkeypatch.context() as slowed:
-            slowed.setattr(LibrarySession, call, slow)
+        with slow_call(monkeypatch, *call) as (begun, until):
             with pytest.raises(KeyboardInterrupt), interrupted_when(begun.is_set):
                 list(dmf.sweep(network, asked))
-            assert not ended.is_set()
-            until.set()
+            assert not until.is_set()
         assert network.value == 1
         results = list(dmf.sweep(network, asked))
         assert [result.value for result in results] == [value] * len(results)
-        assert len(results) >= MOST_LOST_AT_ONCE
+        assert len(results) >= len(CHAIN) - 1
 
 
 def ran(words: list[str], folder: Path, library: str) -> tuple[bytes, bytes]:

@@ -1,22 +1,20 @@
 """What is left of the greatest value without each arc, node or pair, by the C library in this
-process: when it is asked, beside the program, and how a call ends that is broken off or refused.
-"""
+process: when it is asked, beside the program, and how a call ends that is refused. How Ctrl-C ends
+one is in test_questions_stopped.py."""
 
 from __future__ import annotations
 
-import threading
 from collections.abc import Callable, Sized
 from random import Random
 from typing import Any
 
 import pytest
 from c_library import library_file
-from client_shared import BUILT, PIPE_PAIRS, dmf, interrupted_when, pipes, rows_by_number
+from client_shared import BUILT, PIPE_PAIRS, dmf, pipes, rows_by_number
 from dmf.session import library as loaded
 from dmf.session.base import Part, Ranked
 from dmf.session.fresh import values_without
 from dmf.session.statuses import NO_MEMORY
-from limits import SECONDS
 
 # The values without each of the pipes, worked by hand.
 LEFT = [2, 3, 4, 3, 2]
@@ -25,10 +23,9 @@ pytestmark = pytest.mark.usefixtures("by_library")
 
 @pytest.fixture(params=[0, 10**9], ids=["beside", "at once"])
 def bound(request: pytest.FixtureRequest, monkeypatch: pytest.MonkeyPatch) -> int:
-    """The most arcs of a network whose losses are not found beside."""
+    """The most arcs that a call may look at in the caller's thread."""
     most = int(request.param)
-    for name in "MOST_LOST_AT_ONCE", "MOST_PAIRED_AT_ONCE":
-        monkeypatch.setattr(loaded, name, most)
+    monkeypatch.setattr(loaded, "MOST_AT_ONCE", most)
     return most
 
 
@@ -74,28 +71,6 @@ def test_beside_the_program(seed: int, bound: int) -> None:
         nodes = network.vital_nodes()
         assert (nodes.value, list(nodes.values)) == (wanted.value, list(wanted.without)[1:29])
         assert any(nodes.losses) and nodes.nodes == [*range(1, 29)]
-
-
-def test_broken_off(monkeypatch: pytest.MonkeyPatch) -> None:
-    """Ctrl-C leaves the call alone, and the network as it was; the next call begins a session."""
-    monkeypatch.setattr(loaded, "MOST_LOST_AT_ONCE", 0)
-    library: Any = loaded.load(library_file())
-    losses, begun, until = library.losses[Ranked.ARCS], threading.Event(), threading.Event()
-
-    def slow(*words: int) -> int:
-        if not begun.is_set():
-            begun.set()
-            until.wait(SECONDS)
-        return int(losses(*words))
-
-    monkeypatch.setitem(library.losses, Ranked.ARCS, slow)
-    with pipes() as network:
-        plan = network.solve()
-        with pytest.raises(KeyboardInterrupt), interrupted_when(begun.is_set):
-            network.vital()
-        assert (network.value, network.flow() == plan) == (5, True)
-        assert list(network.vital().values) == LEFT
-        until.set()
 
 
 def test_want_of_memory(monkeypatch: pytest.MonkeyPatch, bound: int) -> None:
@@ -147,25 +122,3 @@ def test_want_of_memory_to_rank(monkeypatch: pytest.MonkeyPatch, bound: int) -> 
                 with pytest.raises(dmf.NoMemory, match="^no memory$"):
                     ask(network)
             assert len(ask(network)) == 2
-
-
-def test_ranking_broken_off(monkeypatch: pytest.MonkeyPatch) -> None:
-    """Ctrl-C leaves the call alone, and the network as it was; the next call begins a session."""
-    monkeypatch.setattr(loaded, "MOST_PAIRED_AT_ONCE", 0)
-    library: Any = loaded.load(library_file())
-    worst, begun, until = library.worst[Ranked.PAIRS], threading.Event(), threading.Event()
-
-    def slow(*words: int) -> int:
-        if not begun.is_set():
-            begun.set()
-            until.wait(SECONDS)
-        return int(worst(*words))
-
-    monkeypatch.setitem(library.worst, Ranked.PAIRS, slow)
-    with pipes() as network:
-        plan = network.solve()
-        with pytest.raises(KeyboardInterrupt), interrupted_when(begun.is_set):
-            network.vital_pairs()
-        assert (network.value, network.flow() == plan) == (5, True)
-        assert rows_by_number(network.vital_pairs()) == PIPE_PAIRS
-        until.set()

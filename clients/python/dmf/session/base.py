@@ -148,7 +148,7 @@ class Session:
         # The process that began the session.
         self.owner = os.getpid()
         # How many commands the session was given, except those that are known to have left it as it
-        # was: to the library, questions in the caller's thread, and solves that were stopped.
+        # was: to the library, questions that have ended, and solves that were stopped.
         self.asked_count = 0
         # How many seconds of a processor calls of the library took in other threads.
         self._seconds_beside = 0.0

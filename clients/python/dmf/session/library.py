@@ -5,7 +5,6 @@ from __future__ import annotations
 
 import ctypes
 import functools
-import math
 from array import array
 from collections.abc import Callable, Sequence
 from itertools import compress, count, islice
@@ -32,17 +31,16 @@ from .column_texts import problem_pieces
 from .library_batches import TOGETHER, pieces, run, try_together
 from .library_calls import LONG, SIZE, WORD, LibraryCalls, loading, open_library, place_of
 from .library_gains import gains
-from .statuses import BAD_LENGTH, BAD_TEXT, FAULTS, NO_MEMORY, NOT_GREATEST, OK, REASONS, STOPPED
-from .stops import Flag, SolveStopped
+from .statuses import BAD_LENGTH, BAD_TEXT, FAULTS, NO_MEMORY, OK, REASONS, STOPPED
+from .stops import CallStopped, Flag, is_answered
 from .worker_threads import Given, Handle, Job, Unbegun
 
-# For networks with at most MOST_AT_ONCE arcs, all calls run in the caller's thread, where Ctrl-C
-# has to wait for the call to end, which takes milliseconds. For larger ones they run in another
-# thread, where a flag ends a solve, and any other call goes on after Ctrl-C; except for steps over
-# at most MOST_STEPS states, each of which looks at each arc only a few times. What is lost without
-# each arc takes longer to find, so there the other thread begins at MOST_LOST_AT_ONCE arcs, and for
-# pairs of arcs at MOST_PAIRED_AT_ONCE.
-MOST_AT_ONCE, MOST_LOST_AT_ONCE, MOST_PAIRED_AT_ONCE, MOST_STEPS = 20_000, 1_000, 100, 4
+# A call that looks at no more than MOST_AT_ONCE arcs runs in the caller's thread, where Ctrl-C has
+# to wait for it to end, which takes milliseconds. Arcs count again for each thing that is valued.
+# Any other call runs in another thread, where a flag ends solves, losses and gains; a change or a
+# maximum flow goes on there after Ctrl-C. Calls that look at each arc only a few times, and steps
+# over at most MOST_STEPS states, run in the caller's thread in any network.
+MOST_AT_ONCE, MOST_STEPS = 20_000, 4
 
 
 class Library(LibraryCalls):
@@ -95,7 +93,7 @@ class LibrarySession(Session):
         super().__init__(self._held.clear)
         self._arc_count = arc_count
         self._job: Job[Any] | None = None
-        # What ends a solve in another thread, if there was such a solve.
+        # What ends solves, losses and gains, once one was asked for.
         self._flag: Flag | None = None
 
     @property
@@ -119,7 +117,7 @@ class LibrarySession(Session):
             self.end()
 
     def copy(self) -> LibrarySession:
-        return self._do(self._copied, most_at_once=math.inf, changes=False)
+        return self._do(self._copied, changes=False)
 
     def _copied(self, held: Handle) -> LibrarySession:
         copied = Handle(self._library.free)
@@ -132,23 +130,22 @@ class LibrarySession(Session):
         self,
         work: Callable[..., Given],
         *words: Any,
-        most_at_once: float | None = None,
+        is_beside: bool = False,
         changes: bool = True,
         flag: Flag | None = None,
     ) -> Given:
-        """Return what calls at the session's address return. They run in the caller's thread if the
-        network has at most `most_at_once` arcs, or MOST_AT_ONCE. `changes` says whether they may
-        change the session, and `flag` ends them, if anything does."""
+        """Return what calls at the session's address return, in the caller's thread or beside it in
+        another one. `changes` says whether they may change the session, and `flag` ends them, if
+        anything does."""
         if self._why_broken:
             self.kill(self._why_broken)
         held = next(iter(self._held), None)
         if held is None:
             raise self.ended()
-        is_beside = self._arc_count > (MOST_AT_ONCE if most_at_once is None else most_at_once)
         self.asked_count += changes or is_beside
         try:
             job = Job(work, held, words) if is_beside else None
-            given = work(held, *words) if job is None else self._do_beside(job, flag)
+            given = work(held, *words) if job is None else self._do_beside(job, changes, flag)
         except ValueError as error:
             self.kill("the session was ended, since dmf's answer was not understood")
             raise self.ended() from error
@@ -159,7 +156,7 @@ class LibrarySession(Session):
             raise self.ended()
         return given
 
-    def _do_beside(self, job: Job[Given], flag: Flag | None) -> Given:
+    def _do_beside(self, job: Job[Given], changes: bool, flag: Flag | None) -> Given:
         """Return the result of a job. If Ctrl-C interrupts the wait for it, the flag ends the job;
         a job without a flag goes on."""
         self._job = job
@@ -171,18 +168,33 @@ class LibrarySession(Session):
                     flag.put_up()
                 self.kill(self._why_broken)
                 raise self.ended()
-            return job.given()
+            given = job.given()
         except Error:
             raise
         except BaseException:
-            if flag and isinstance(job.give_up(flag.put_up), (SolveStopped, Unbegun)):
+            if flag:
+                error = job.give_up(flag.put_up)
                 flag.take_down()
-                # The last step: the session is as it was, with nothing left to do.
-                self.asked_count -= 1
+                if not changes or isinstance(error, (CallStopped, Unbegun)):
+                    # The last step: the session is as it was, with nothing left to do.
+                    self.asked_count -= 1
             raise
         finally:
             self._seconds_beside += job.seconds
             self._job = None
+        if not changes:
+            # A question leaves the session as it was.
+            self.asked_count -= 1
+        return given
+
+    def _is_long(self, count: int = 1) -> bool:
+        """Return True if a call that looks at all arcs this many times runs in another thread."""
+        return self._arc_count * count > MOST_AT_ONCE
+
+    def _ask(self, work: Callable[..., Given], *words: Any, count: int) -> Given:
+        """Return the losses or gains of this many things. A flag ends the call."""
+        flag, is_beside = self._own_flag(""), self._is_long(count)
+        return self._do(work, *words, flag, is_beside=is_beside, changes=False, flag=flag)
 
     def _carried_out(self, held: Handle, command: Command, at: object = None) -> int:
         word, *numbers = command
@@ -193,34 +205,36 @@ class LibrarySession(Session):
 
     def step(self, command: Command, at: object = None) -> int:
         word, *numbers = command
-        if word == "solve" and self._arc_count > MOST_AT_ONCE:
-            flag = self._own_flag()
-            return self._do(self._solved_until, flag, flag=flag)
+        if word == "solve":
+            flag = self._own_flag(word)
+            return self._do(self._solved, flag, is_beside=self._is_long(), flag=flag)
         is_short = word in ("undo", "redo") and numbers[0] <= MOST_STEPS
-        most = math.inf if is_short else None
-        return self._do(self._carried_out, command, at, most_at_once=most)
+        is_beside = self._is_long() and not is_short
+        return self._do(self._carried_out, command, at, is_beside=is_beside)
 
-    def _own_flag(self) -> Flag:
+    def _own_flag(self, line: str) -> Flag:
+        """Return the flag that ends calls. Raises a `Refused` that names the line of a command if
+        memory is short."""
         try:
             self._flag = self._flag or Flag(self._library)
         except MemoryError as error:
-            raise refused(str(error), "solve", None) from None
+            raise refused(str(error), line, None) from None
         return self._flag
 
-    def _solved_until(self, held: Handle, flag: Flag) -> int:
-        status = self._library.solve_until(held.address, flag.solving)
+    def _solved(self, held: Handle, flag: Flag) -> int:
+        status = self._library.solve_until(held.address, flag.calling)
         if status == STOPPED:
-            raise SolveStopped
+            raise CallStopped
         if status != OK:
             raise refused(REASONS[status], "solve", None)
         return self._library.value(held.address)
 
     def carry_out(self, commands: Sequence[Command]) -> int:
-        return self._do(self._carried_on, commands) if commands else 0
+        return self._do(self._carried_on, commands, is_beside=self._is_long()) if commands else 0
 
     def _carried_on(self, held: Handle, commands: Sequence[Command]) -> int:
         values = array(AMOUNTS, [0])
-        for piece in pieces(commands, self._arc_count > MOST_AT_ONCE):
+        for piece in pieces(commands, self._is_long()):
             if self._why_broken:
                 break
             status, values = run(self._library, held.address, piece)
@@ -232,7 +246,7 @@ class LibrarySession(Session):
         return values[-1] if values else 0
 
     def flows(self, value: int, open_count: int) -> array[int]:
-        return self._do(self._flows, value, most_at_once=math.inf, changes=False)
+        return self._do(self._flows, value, changes=False)
 
     def _flows(self, held: Handle, value: int) -> array[int]:
         judged(self._library.value(held.address), value)
@@ -258,53 +272,47 @@ class LibrarySession(Session):
         return marks, self._library.side(held.address, marks.buffer_info()[0], len(marks))
 
     def maximum_flow(self, want_flows: bool, want_side: bool) -> Solved:
-        return self._do(self._maximum_flow, want_flows, want_side, changes=False)
+        words, is_beside = (want_flows, want_side), self._is_long()
+        return self._do(self._maximum_flow, *words, is_beside=is_beside, changes=False)
 
     def _maximum_flow(self, held: Handle, want_flows: bool, want_side: bool) -> Solved:
         address, value = held.address, LONG()
         flows = array(AMOUNTS, [0]) * (self._library.arcs(address) if want_flows else 0)
         marks = array("B", bytes(self._library.nodes(address) if want_side else 0))
         columns = place_of(flows), len(flows), place_of(marks), len(marks)
-        status = self._library.maximum_flow(address, ctypes.byref(value), *columns)
-        if status != OK:
-            raise refused_line(REASONS[status], None)
+        is_answered(self._library.maximum_flow(address, ctypes.byref(value), *columns))
         return Solved(value.value, flows, list(compress(count(1), marks)))
 
     def values_without(self, part: Part) -> ValuesWithout | None:
-        return self._do(self._values_without, part, most_at_once=MOST_LOST_AT_ONCE, changes=False)
+        return self._ask(self._values_without, part, count=self._arc_count)
 
-    def _values_without(self, held: Handle, part: Part) -> ValuesWithout | None:
+    def _values_without(self, held: Handle, part: Part, flag: Flag) -> ValuesWithout | None:
         is_arc = part is Part.ARC
         count = (self._library.arcs if is_arc else self._library.nodes)(held.address)
         numbers = array(NODES, range(1, count + 1))
-        losses = self._losses(held, Ranked.ARCS if is_arc else Ranked.NODES, [numbers])
+        losses = self._losses(held, Ranked.ARCS if is_arc else Ranked.NODES, [numbers], flag)
         if losses is None:
             return None
         value = self._library.value(held.address)
         return ValuesWithout(value, array(AMOUNTS, [value - loss for loss in losses]))
 
     def losses(self, ranked: Ranked, columns: Sequence[array[int]]) -> array[int] | None:
-        most = _most_at_once(ranked)
-        return self._do(self._losses, ranked, columns, most_at_once=most, changes=False)
+        return self._ask(self._losses, ranked, columns, count=len(columns[0]))
 
     def _losses(
-        self, held: Handle, ranked: Ranked, columns: Sequence[array[int]]
+        self, held: Handle, ranked: Ranked, columns: Sequence[array[int]], flag: Flag
     ) -> array[int] | None:
         losses = array(AMOUNTS, [0]) * len(columns[0])
         places = [part for column in (*columns, losses) for part in (place_of(column), len(column))]
-        status = self._library.losses[ranked](held.address, *places)
-        if status == NOT_GREATEST:
-            return None
-        if status != OK:
-            raise refused_line(REASONS[status], None)
-        return losses
+        status = self._library.losses[ranked](held.address, *places, flag.calling)
+        return losses if is_answered(status) else None
 
     def worst_without(self, ranked: Ranked, most: int, among: bytes = b"") -> WorstWithout | None:
-        words, most_at_once = (ranked, most, among), _most_at_once(ranked)
-        return self._do(self._worst_without, *words, most_at_once=most_at_once, changes=False)
+        count = self._arc_count**ranked.column_count
+        return self._ask(self._worst_without, ranked, most, among, count=count)
 
     def _worst_without(
-        self, held: Handle, ranked: Ranked, most: int, among: bytes
+        self, held: Handle, ranked: Ranked, most: int, among: bytes, flag: Flag
     ) -> WorstWithout | None:
         address = held.address
         arcs = len(among) - among.count(0) if among else self._library.arcs(address)
@@ -316,26 +324,22 @@ class LibrarySession(Session):
         ]
         if ranked is not Ranked.NODES:
             columns = [among, len(among), *columns]
-        status = self._library.worst[ranked](address, *columns, ctypes.byref(found))
-        if status == NOT_GREATEST:
+        columns += [ctypes.byref(found), flag.calling]
+        if not is_answered(self._library.worst[ranked](address, *columns)):
             return None
-        if status != OK:
-            raise refused_line(REASONS[status], None)
         judged(found.value, most)
         value = self._library.value(address)
         without = array(AMOUNTS, (value - loss for loss in losses))
         return WorstWithout(value, tuple(numbers), without)
 
     def gains(self, arcs: ArcColumns) -> array[int] | None:
-        return self._do(self._gains, arcs, most_at_once=MOST_LOST_AT_ONCE, changes=False)
+        return self._ask(self._gains, arcs, count=len(arcs.tails))
 
-    def _gains(self, held: Handle, arcs: ArcColumns) -> array[int] | None:
+    def _gains(self, held: Handle, arcs: ArcColumns, flag: Flag) -> array[int] | None:
         marks, status = self._side(held)
-        if status == NOT_GREATEST:
-            return None
-        if status != OK:
-            raise refused_line(REASONS[status], None)
-        return gains(self._library, held.address, arcs, marks)
+        return (
+            gains(self._library, held.address, arcs, marks, flag) if is_answered(status) else None
+        )
 
     def problem(self) -> bytes:
         return self._do(self._problem, changes=False)
@@ -354,22 +358,17 @@ class LibrarySession(Session):
             text = array("B", bytes(length.value))
 
     def try_cases(self, cases: Sequence[Sequence[Command]], value: int, found: list[int]) -> None:
-        self._do(self._tried, cases, value, found)
+        self._do(self._tried, cases, value, found, is_beside=self._is_long())
 
     def _tried(
         self, held: Handle, cases: Sequence[Sequence[Command]], value: int, found: list[int]
     ) -> None:
         """Try the cases. Raises a ValueError if something in a case is refused, or if the network
         has another value at the end; then none of their values is used."""
-        begin, together = len(found), TOGETHER if self._arc_count <= MOST_AT_ONCE else 1
+        begin, together = len(found), 1 if self._is_long() else TOGETHER
         left = iter(cases)
         while not self._why_broken and (piece := [*islice(left, together)]):
             try_together(self._library, held.address, piece, found)
         if self._library.value(held.address) != value:
             del found[begin:]
             raise ValueError
-
-
-def _most_at_once(ranked: Ranked) -> int:
-    """Return how many arcs a network has at most whose losses are found in the caller's thread."""
-    return MOST_PAIRED_AT_ONCE if ranked is Ranked.PAIRS else MOST_LOST_AT_ONCE

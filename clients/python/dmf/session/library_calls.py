@@ -15,7 +15,8 @@ from .base import Ranked
 from .versions import ABI, fits, other_version
 
 # The commands that calls of the library carry out, each with how many numbers follow its word.
-COMMANDS = {"cap": 2, "add": 3, "close": 1, "shut": 1, "solve": 0, "undo": 1, "redo": 1}
+# A solve has a call of its own.
+COMMANDS = {"cap": 2, "add": 3, "close": 1, "shut": 1, "undo": 1, "redo": 1}
 POINTER, WORD, LONG, SIZE = ctypes.c_void_p, ctypes.c_uint32, ctypes.c_uint64, ctypes.c_size_t
 
 
@@ -51,20 +52,20 @@ class LibraryCalls:
         self.maximum_flow = self._call("dmf_session_maximum_flow", found)
         self.losses = {
             ranked: self._call(
-                f"dmf_session_{ranked.one}_losses",
-                [POINTER, *[POINTER, SIZE] * (ranked.column_count + 1)],
+                f"dmf_session_{ranked.one}_losses_until",
+                [POINTER, *[POINTER, SIZE] * (ranked.column_count + 1), POINTER],
             )
             for ranked in Ranked
         }
         self.worst = {
             ranked: self._call(
-                f"dmf_session_worst_{ranked.value}",
-                [POINTER, *[POINTER, SIZE] * _array_count(ranked), POINTER],
+                f"dmf_session_worst_{ranked.value}_until",
+                [POINTER, *[POINTER, SIZE] * _array_count(ranked), POINTER, POINTER],
             )
             for ranked in Ranked
         }
         self.new_arc_gains = self._call(
-            "dmf_session_new_arc_gains", [POINTER, *[POINTER, SIZE] * 4]
+            "dmf_session_new_arc_gains_until", [POINTER, *[POINTER, SIZE] * 4, POINTER]
         )
         self.problem = self._call("dmf_session_problem", [POINTER, POINTER, SIZE, POINTER])
 

@@ -1,41 +1,52 @@
-"""Flags of the library, by which the thread that waits for a solve ends it."""
+"""Flags of the library, by which the thread that waits for a call ends it."""
 
 from __future__ import annotations
 
 import ctypes
 from collections.abc import Callable
 
+from .base import refused_line
 from .library_calls import LibraryCalls
-from .statuses import NO_MEMORY, OK, REASONS
+from .statuses import NO_MEMORY, NOT_GREATEST, OK, REASONS, STOPPED
 from .worker_threads import Handle
 
 
-class SolveStopped(Exception):
-    """A solve ended since its flag was raised. The session is as it was before."""
+class CallStopped(Exception):
+    """A call ended since its flag was raised. The session is as it was before."""
 
 
 class Flag:
-    """A flag that ends solves in another thread. The library lets a hold of a flag be used by one
-    thread at a time, so the thread that waits has one, and the thread that solves has another."""
+    """A flag that ends calls in another thread. The library lets a hold of a flag be used by one
+    thread at a time, so the thread that waits has one, and the thread that calls has another."""
 
     def __init__(self, calls: LibraryCalls) -> None:
         """Raise a MemoryError if memory is short."""
         self._calls = calls
         self._waiting = _hold(calls, calls.stop_new)
-        self._solving = _hold(calls, calls.stop_share, self._waiting.address)
+        self._calling = _hold(calls, calls.stop_share, self._waiting.address)
 
     @property
-    def solving(self) -> ctypes.c_void_p:
-        """Return the hold of the thread that solves."""
-        return self._solving.address
+    def calling(self) -> ctypes.c_void_p:
+        """Return the hold of the thread that calls."""
+        return self._calling.address
 
     def put_up(self) -> None:
-        """Raise the flag, which ends a solve, also one that is about to begin."""
+        """Raise the flag, which ends a call, also one that is about to begin."""
         self._calls.stop_raise(self._waiting.address)
 
     def take_down(self) -> None:
-        """Let solves go on until they are done."""
+        """Let calls go on until they are done."""
         self._calls.stop_clear(self._waiting.address)
+
+
+def is_answered(status: int) -> bool:
+    """Return True if a call that a flag may end has answered, and False if the session's flow is
+    not a maximum flow. Raises `CallStopped`, or a `Refused` for want of memory."""
+    if status == STOPPED:
+        raise CallStopped
+    if status not in (OK, NOT_GREATEST):
+        raise refused_line(REASONS[status], None)
+    return status == OK
 
 
 def _hold(calls: LibraryCalls, make: Callable[..., int], *shared: ctypes.c_void_p) -> Handle:

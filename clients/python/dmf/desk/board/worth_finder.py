@@ -27,8 +27,9 @@ from ..seconds import AskedSeconds, gains_by_pipe, second_arcs
 from ..workspace import Desk
 from ..worth import MOST_PAIRED, MOST_PAIRS, pairs_of_pipes, pipes_by_arc
 
-# The most arcs of a network that is solved once more by the library, which nothing can stop; a
-# larger one is left to the program. With 10,000 pipes that lead both ways it takes 0.1 s.
+# The most arcs of a network that is solved once more by the library; a larger one is left to the
+# program, which solves hard networks many times faster. With 10,000 pipes that lead both ways it
+# takes 0.1 s.
 MOST_IN_PROCESS = 25_000
 # How long a request waits for what may be found soon, in seconds.
 PATIENCE = 0.05
