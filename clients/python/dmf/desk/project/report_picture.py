@@ -218,7 +218,8 @@ class _Drawing:
 
     def _wishes(self) -> Iterator[Wish]:
         """Yield the labels that a picture should have, of each rank the largest first. If there is
-        room for the names of all places, none may be left out."""
+        room for the names of all places, none may be left out; where there is none for all sources
+        and sinks, only those of the bottleneck may cover lines."""
         told, others = list[GroundLine](), list[GroundLine]()
         lines = sorted(
             self._ground.lines, key=lambda it: (shade_of(it.mark) is IDLE, -int(it.mark.width))
@@ -230,9 +231,10 @@ class _Drawing:
         places = [it for it in self._ground.places if it.node not in self._ovals]
         ends = sorted((it for it in places if it.is_end), key=lambda it: not it.is_limit)
         plain = [it for it in places if not it.is_end and self._reach(it)]
-        must = len(told) + len(places) <= most_labels(self._ground.sheet)
+        most = most_labels(self._ground.sheet) - len(told)
+        must, may_cover = len(places) <= most, len(ends) <= most
         for place in (*ends, *plain[:MOST_TRIED]):
-            yield _place_wish(place, self._reach(place), must)
+            yield _place_wish(place, self._reach(place), must, may_cover)
 
     def _line_wish(self, line: GroundLine) -> Wish:
         shade, route = shade_of(line.mark), self._route(line)
@@ -267,10 +269,13 @@ def _texts(place: GroundPlace) -> tuple[Text, ...]:
     )
 
 
-def _place_wish(place: GroundPlace, reach: float, must: bool = False) -> Wish:
+def _place_wish(
+    place: GroundPlace, reach: float, must: bool = False, may_cover: bool = True
+) -> Wish:
     rank = 0 if place.is_shut else 1 if place.is_limit else 2 if place.is_end else 3
-    told, named = rank < 3, f"node-{place.node}"
-    return Wish(named, rank, must or told, _texts(place), place.at, reach, may_cover=told)
+    may_cover = rank < 2 or rank == 2 and may_cover
+    named = f"node-{place.node}"
+    return Wish(named, rank, must or rank < 3, _texts(place), place.at, reach, may_cover=may_cover)
 
 
 def _pie(at: Point, share: float) -> str:
