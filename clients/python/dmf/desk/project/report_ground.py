@@ -32,6 +32,9 @@ MOST_LAID_OUT, MOST_PAINTED = 3_000, 100_000
 PIXEL, RIM = 0.75, (52.0, 26.0)
 # How far lines with the same ends are apart.
 LANE = 4 * PIXEL
+# For its thickness a line counts as at most this many times as long as a place usually is from the
+# nearest other one, so lines are thin where places are close; and the most places so compared.
+LONG, MOST_COMPARED = 3.0, 500
 Point = tuple[float, float]
 
 
@@ -140,7 +143,8 @@ class Grounds:
                 (number in changed for number in arcs),
             )
         )
-        lengths = [line.long / PIXEL for line in lines]
+        most = LONG * _usual_gap([*at.values()])
+        lengths = [min(line.long, most) / PIXEL for line in lines]
         is_whole = len(arcs) == len(network.pictured())
         return Ground(
             used, tuple(_places(desk, at)), lines, thicker(lengths), is_whole, self._is_map
@@ -193,6 +197,17 @@ def _ends(desk: Desk, number: int) -> tuple[int, int]:
     """Return the places at the ends of an arc, in the order in which they are in the table."""
     line, place = desk.network.lines[number - 1], desk.network.folding.place
     return place(line.tail), place(line.head)
+
+
+def _usual_gap(spots: Sequence[Point]) -> float:
+    """Return how far a place usually is from the nearest other one, or infinity for too many."""
+    if not 1 < len(spots) <= MOST_COMPARED:
+        return math.inf
+    gaps = sorted(
+        min(math.dist(spot, other) for other in (*spots[:at], *spots[at + 1 :]))
+        for at, spot in enumerate(spots)
+    )
+    return gaps[len(gaps) // 2]
 
 
 def _places(desk: Desk, at: dict[int, Point]) -> Iterator[GroundPlace]:
