@@ -1,4 +1,5 @@
 /** Places that are dots, with their names beside them: a square where flow comes from, a pie of what arrives where it goes to. */
+import { usualLength } from "./colourings.js";
 import { at } from "./elements.js";
 import { now, put } from "./store.js";
 
@@ -19,6 +20,8 @@ const RIM = 2, SQUARE = "M-8-8H8V8H-8Z", BAR = "M-4 0H4V4H-4Z", PIE = 6.5, DISC 
 /** The largest part of a pie that is not whole, as it is drawn; and the distance of a name from its place from which a line leads to it, in
  * pixels. */
 const ALMOST = 0.96, LED = 8;
+/** How many times as far as places usually are from the nearest other one a line counts as long at most; and the most places compared. */
+const LONG = 3, MOST_COMPARED = 500;
 
 /** @param {Element} part */
 export const isDot = (part) => part.hasAttribute("data-dot");
@@ -74,6 +77,17 @@ export const nearestIn = ({ left, right, top, bottom }, [x, y]) => [Math.min(rig
 
 /** @param {Element} part */
 const middleOf = (part) => ["cx", "cy"].map((name) => Number(part.querySelector("ellipse")?.getAttribute(name)));
+
+/**
+ * Returns how long a line counts at most, in units of the picture, so that lines are thin where places are close.
+ * @param {Element[]} parts
+ */
+export function mostLong(parts) {
+  const spots = parts.filter((part) => part.matches(".node")).map(middleOf);
+  if (spots.length < 2 || spots.length > MOST_COMPARED) return Infinity;
+  return LONG * usualLength(spots.map(([x, y], one) =>
+    Math.min(...spots.map(([right, down], other) => other === one ? Infinity : Math.hypot(right - x, down - y)))));
+}
 
 /**
  * Shows what a place is.

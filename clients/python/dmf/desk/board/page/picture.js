@@ -17,7 +17,7 @@ import { Requests } from "./asking.js";
 import { hintBeyond } from "./beyond.js";
 import { choose, theChoice } from "./choice.js";
 import { markOf, shadeOf, thicker, thickness, usualLength } from "./colourings.js";
-import { sizeDots } from "./dots.js";
+import { mostLong, sizeDots } from "./dots.js";
 import { boxOf, partOf, parts, show } from "./drawing.js";
 import { at, onClick } from "./elements.js";
 import { isFaded } from "./filter.js";
@@ -129,8 +129,8 @@ function draw(text) {
   const arrows = arrowsOf(parts()), limits = isGround()
     ? lines.filter(isOfLimit).map(({ from, to }) => [(from[0] + to[0]) / 2, (from[1] + to[1]) / 2])
     : arrows.filter(({ part }) => part.matches(".cut")).map(({ path, long }) => path.getPointAtLength(long / 2)).map(({ x, y }) => [x, y]);
-  put("drawn", { labels, arrows, limits, usual: isGround() ? usual : usualLength(arrows.map(({ long }) => long)),
-    ids: new Set(parts().map((part) => part.id)) });
+  const long = isGround() ? usual : Math.min(usualLength(arrows.map((arrow) => arrow.long)), mostLong(parts()));
+  put("drawn", { labels, arrows, limits, usual: long, ids: new Set(parts().map((part) => part.id)) });
   see();
   if (held && document.activeElement?.id !== held) (document.getElementById(held) ?? at("picture")).focus();
 }
