@@ -193,7 +193,7 @@ class LibrarySession(Session):
 
     def _ask(self, work: Callable[..., Given], *words: Any, count: int) -> Given:
         """Return the losses or gains of this many things. A flag ends the call."""
-        flag, is_beside = self._own_flag(""), self._is_long(count)
+        flag, is_beside = self._flag or self._new_flag(""), self._is_long(count)
         return self._do(work, *words, flag, is_beside=is_beside, changes=False, flag=flag)
 
     def _carried_out(self, held: Handle, command: Command, at: object = None) -> int:
@@ -206,17 +206,17 @@ class LibrarySession(Session):
     def step(self, command: Command, at: object = None) -> int:
         word, *numbers = command
         if word == "solve":
-            flag = self._own_flag(word)
+            flag = self._flag or self._new_flag(word)
             return self._do(self._solved, flag, is_beside=self._is_long(), flag=flag)
         is_short = word in ("undo", "redo") and numbers[0] <= MOST_STEPS
         is_beside = self._is_long() and not is_short
         return self._do(self._carried_out, command, at, is_beside=is_beside)
 
-    def _own_flag(self, line: str) -> Flag:
+    def _new_flag(self, line: str) -> Flag:
         """Return the flag that ends calls. Raises a `Refused` that names the line of a command if
         memory is short."""
         try:
-            self._flag = self._flag or Flag(self._library)
+            self._flag = Flag(self._library)
         except MemoryError as error:
             raise refused(str(error), line, None) from None
         return self._flag

@@ -24,11 +24,8 @@ class Flag:
         self._calls = calls
         self._waiting = _hold(calls, calls.stop_new)
         self._calling = _hold(calls, calls.stop_share, self._waiting.address)
-
-    @property
-    def calling(self) -> ctypes.c_void_p:
-        """Return the hold of the thread that calls."""
-        return self._calling.address
+        # The hold of the thread that calls.
+        self.calling = self._calling.address
 
     def put_up(self) -> None:
         """Raise the flag, which ends a call, also one that is about to begin."""
