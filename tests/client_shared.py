@@ -5,6 +5,7 @@ import contextlib
 import os
 import signal
 import subprocess
+import sys
 import tempfile
 import time
 from collections.abc import Callable, Iterable, Iterator
@@ -126,8 +127,9 @@ def interrupted_when(*conditions: Callable[[], bool]) -> Iterator[None]:
     """A block that is broken off as by Ctrl-C once the first of these conditions holds, then once
     the second does, and so on. Each is looked at again and again, until it has held for a moment:
     a slow machine may take long until it does, and a signal that comes just before a call would be
-    heeded only after it."""
-    awaited, has_held = [*conditions], False
+    heeded only after it. Python ignores what a finalizer raises, which may run at any time; if that
+    is where the block was broken off, it is broken off once more."""
+    awaited, has_held, hook = [*conditions], False, sys.unraisablehook
 
     def look(*_: object) -> None:
         nonlocal has_held
@@ -137,10 +139,17 @@ def interrupted_when(*conditions: Callable[[], bool]) -> Iterator[None]:
             del awaited[0]
             raise KeyboardInterrupt
 
-    before = signal.signal(signal.SIGALRM, look)
+    def look_again(ignored: Any) -> None:
+        if issubclass(ignored.exc_type, KeyboardInterrupt):
+            awaited.insert(0, lambda: True)
+        else:
+            hook(ignored)
+
+    sys.unraisablehook, before = look_again, signal.signal(signal.SIGALRM, look)
     signal.setitimer(signal.ITIMER_REAL, MOMENT, MOMENT)
     try:
         yield
     finally:
         signal.setitimer(signal.ITIMER_REAL, 0)
         signal.signal(signal.SIGALRM, before)
+        sys.unraisablehook = hook

@@ -14,7 +14,7 @@ from typing import Any
 import pytest
 from broken_off import CALLS, all_told, prepared
 from c_library import library_file
-from client_shared import BUILT, PIPES, dmf, interrupted_when, pipes
+from client_shared import BUILT, MOMENT, PIPES, dmf, interrupted_when, pipes
 from dmf.session import library as loaded
 from dmf.session.base import Ranked
 from dmf.session.library_batches import KINDS
@@ -229,6 +229,26 @@ def test_cases_that_go_wrong_in_the_middle(monkeypatch: pytest.MonkeyPatch) -> N
             )
         assert found == [2, 3]
         assert network.begin_again() == 5
+
+
+def test_a_lost_interrupt_comes_again() -> None:
+    """Where a test breaks off a finalizer, whose errors Python ignores."""
+
+    def idle() -> None:
+        until = time.monotonic() + SECONDS
+        while time.monotonic() < until:
+            time.sleep(MOMENT)
+
+    class Freed:
+        def __del__(self) -> None:
+            idle()
+
+    went_on = False
+    with pytest.raises(KeyboardInterrupt), interrupted_when(lambda: True):
+        Freed()
+        went_on = True
+        idle()
+    assert went_on
 
 
 def test_an_interrupt_ends_a_sweep(bound: int) -> None:
