@@ -63,6 +63,8 @@ drawing.text().then((text) => {
   done([names, labels, places, [all.width, all.height]]);
 });
 """
+# The last bytes of a PNG file.
+PNG_END = b"IEND\xaeB`\x82"
 # Where the labels of the picture are on the page.
 SHOWN = """
 return [...document.querySelectorAll("#picture text")].map((it) =>
@@ -94,12 +96,12 @@ def pixels(picture: bytes) -> Any:
 
 
 def hand_on(page: Page, folder: Path) -> Path:
-    """The file that the page hands on."""
+    """The file that the page hands on, once it is whole: the browser begins with an empty one."""
     page.driver.execute_cdp_cmd(
         "Browser.setDownloadBehavior", {"behavior": "allow", "downloadPath": str(folder)}
     )
     named(page, "button", "Picture (PNG)").click()
-    page.wait(lambda: [*folder.glob("*.png")])
+    page.wait(lambda: [it for it in folder.glob("*.png") if it.read_bytes().endswith(PNG_END)])
     [file] = folder.glob("*.png")
     return file
 
