@@ -215,7 +215,12 @@ def test_flood() -> None:
 def test_no_file_left() -> None:
     """Where the board has no file left for another connection, it waits for one, and spends no
     processor."""
-    with board(PIPES, preexec=lambda: resource.setrlimit(resource.RLIMIT_NOFILE, (40, 40))) as it:
+
+    def limit_files() -> None:
+        heed_interrupts()
+        resource.setrlimit(resource.RLIMIT_NOFILE, (40, 40))
+
+    with board(PIPES, preexec=limit_files) as it:
         pages = []
         for _ in range(60):
             pages.append(socket.create_connection(("127.0.0.1", it.port), SECONDS))
