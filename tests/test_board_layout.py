@@ -81,6 +81,27 @@ def test_fills_the_window(driver: Any) -> None:
         as_before(driver)
 
 
+@pytest.mark.parametrize("width", WIDTHS)
+def test_table_fits(driver: Any, width: int) -> None:
+    """The table of all arcs is as wide as its box. In a narrow window the column of changes has no
+    room, and comes with the first change."""
+    with board(PIPES) as it:
+        show(driver, width, "light")
+        page = Page(driver, it.address)
+        page.click("#tab-all")
+        page.settle()
+        script = (
+            "const it = document.getElementById('rows'); return [it.scrollWidth, it.clientWidth]"
+        )
+        table, box = driver.execute_script(script)
+        assert table <= box, (table, box)
+        changes = page.find("#grid thead .change")
+        assert changes.is_displayed() == (width > 1000)
+        it.do(what="close", arc=3)
+        page.wait(lambda: page.find("#grid thead .change").is_displayed())
+        as_before(driver)
+
+
 @pytest.mark.parametrize("kind", ["water", "square", "map"])
 def test_found_is_seen(driver: Any, tmp_path: Path, kind: str) -> None:
     """What is found by its name lies in the free part of the window, with nothing over it, in a

@@ -94,6 +94,7 @@ function draw() {
   grid.setAttribute("aria-rowcount", String(total + 1));
   activity.signs = Math.max(activity.signs, ...rows.flatMap((arc) => [arc.flow.length, arc.capacity.length]));
   grid.style.setProperty("--signs", String(activity.signs));
+  grid.classList.toggle("unchanged", now.state?.at === 0);
   const keys = "arrow keys move, Space chooses, Control and A all, Enter shows one";
   grid.setAttribute("aria-label", `All ${noun()}s ${caption()}; ${keys}`);
   if (grid.tHead) replace(grid.tHead, [make("tr", [title("tick", "chosen"), ...heads, title("marks", "state")])]);
