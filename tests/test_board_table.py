@@ -218,6 +218,28 @@ def test_since_the_beginning() -> None:
             assert int(use) == min(9, 10 * flow // capacity), row
 
 
+@pytest.mark.parametrize("capacity", ["4.5", "4.25"])
+def test_since_the_beginning_with_more_decimals(capacity: str) -> None:
+    """A capacity may have more decimals than the table, which makes all numbers of the session
+    finer: what flowed at the beginning is compared with what flows now as amounts."""
+    with board(PIPES) as it:
+        before = {row["number"]: Fraction(row["flow"]) for row in rows(it)["rows"]}
+        assert "error" not in it.do(what="cap", arc=2, capacity=capacity)
+        now = {row["number"]: Fraction(row["flow"]) for row in rows(it)["rows"]}
+        wanted = {
+            "flow > before": {arc for arc, flow in now.items() if flow > before[arc]},
+            "flow < before": {arc for arc, flow in now.items() if flow < before[arc]},
+            "flow = before": {arc for arc, flow in now.items() if flow == before[arc]},
+        }
+        assert wanted["flow < before"] and wanted["flow = before"]
+        for text, numbers in wanted.items():
+            assert {row["number"] for row in rows(it, text)["rows"]} == numbers, text
+        marks = {arc["number"]: arc["mark"] for arc in it.told("picture?near=")["arcs"]}
+        for number in now.keys() - {2}:
+            by = now[number] - before[number]
+            assert marks[number][2] == ("+" if by > 0 else "-" if by < 0 else "."), number
+
+
 def test_order(tmp_path: Path) -> None:
     """By a column, forward and back; names by their numbers, amounts by their size, and else as in
     the file. A part has just its rows."""

@@ -4,6 +4,7 @@ from __future__ import annotations
 
 import math
 from collections.abc import Sequence
+from decimal import Decimal
 from typing import NamedTuple
 
 from ...quantity import Quantity
@@ -37,12 +38,14 @@ class Beginning:
 
     def __init__(self, desk: Desk) -> None:
         self._desk = desk
+        # The flows, and the scale at which they are whole: a step may make it finer.
         self._flows: Sequence[int] | None = None
+        self._scale = Decimal(1)
 
     def heed(self) -> None:
         """Remember the flows if the desk is at the beginning."""
         if self._desk.at == 1:
-            self._flows = self._desk.flows()
+            self._flows, self._scale = self._desk.flows(), self._desk.network.measure.scale
 
     @property
     def is_known(self) -> bool:
@@ -55,7 +58,11 @@ class Beginning:
         later."""
         network = self._desk.network
         first = network.lines[number - 1].first or number
-        return self._flows[first - 1] if self._flows and first <= network.first_count else 0
+        if not self._flows or first > network.first_count:
+            return 0
+        flow, scale = self._flows[first - 1], network.measure.scale
+        # Both are below 2^64, which Decimals hold exactly.
+        return flow if scale == self._scale else int(flow * (scale / self._scale))
 
     def capacity(self, number: int) -> Quantity | None:
         """Return the capacity that an arc had, or None if it was added later."""
