@@ -45,7 +45,9 @@ class Beginning:
     def heed(self) -> None:
         """Remember the flows if the desk is at the beginning."""
         if self._desk.at == 1:
-            self._flows, self._scale = self._desk.flows(), self._desk.network.measure.scale
+            self._flows = self._desk.flows()
+            # Every click asks for this, so no property of the desk is.
+            self._scale = self._desk.state.network.measure.scale
 
     @property
     def is_known(self) -> bool:
