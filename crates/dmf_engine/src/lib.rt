@@ -18,6 +18,7 @@
 #![tactic(auto)]
 
 pub use likely::{Likely, likely_greatest};
+pub use watch::EngineWatch;
 
 mod adoption;
 mod buckets;
@@ -33,3 +34,4 @@ mod members;
 mod phases;
 mod returning;
 mod trees;
+mod watch;

@@ -2,6 +2,7 @@
 use crate::engine::Engine;
 use crate::links::head_of;
 use crate::list::{Row, fill, read, within, write};
+use crate::watch::{EngineWatch, Poll};
 use dmf_state::NoMemory;
 use std::alloc::Global;
 
@@ -32,8 +33,12 @@ struct Cycle {
 
 impl Engine {
     /// Gives back all excess: takes flow off the cycles on which it could run, and then gives back node by node. `false` if the budget
-    /// ended first. Takes memory for two numbers a node.
-    pub fn give_back(&mut self, alloc: Global) -> Result<bool, NoMemory> {
+    /// ended first, or the watch ended the engine. Takes memory for two numbers a node.
+    pub fn give_back<V: EngineWatch>(
+        &mut self,
+        alloc: Global,
+        poll: &mut Poll<'_, V>,
+    ) -> Result<bool, NoMemory> {
         let size = self.nodes as usize + 2;
         let mut walk = Walk {
             places: Row::new(alloc, size)?,
@@ -44,13 +49,13 @@ impl Engine {
         for node in 1..self.nodes.wrapping_add(1) {
             if self.excess_at(node) != 0
                 && self.label(node) == NEW
-                && !self.walk_from(&mut walk, node)
+                && !self.walk_from(&mut walk, node, poll)
             {
                 return Ok(false);
             }
         }
-        self.give_back_all(&walk.done);
-        Ok(true)
+        self.give_back_all(&walk.done, poll);
+        Ok(!poll.has_ended)
     }
 
     /// No walk goes on at either end, and at each other node it begins with the first link.
@@ -65,11 +70,16 @@ impl Engine {
     }
 
     /// Walks until the root is done, and takes each cycle off. `false` if the budget ended first.
-    fn walk_from(&mut self, walk: &mut Walk, root: u32) -> bool {
+    fn walk_from<V: EngineWatch>(
+        &mut self,
+        walk: &mut Walk,
+        root: u32,
+        poll: &mut Poll<'_, V>,
+    ) -> bool {
         let mut node = root;
         write(&mut self.labels, root, ON_WALK);
-        for _ in 0..self.budget {
-            if self.budget == 0 {
+        for _ in 0..self.budget.left {
+            if self.budget.is_spent(poll) {
                 break;
             }
             let place = self.next_step(node);
@@ -109,7 +119,7 @@ impl Engine {
             place = place.wrapping_add(1);
         }
         write(&mut self.currents, node, place);
-        self.spend(place.wrapping_sub(start).wrapping_add(1));
+        self.budget.spend(place.wrapping_sub(start).wrapping_add(1));
         place
     }
 
@@ -165,14 +175,17 @@ impl Engine {
             if !self.direction.can_leave(self.links.at(place).word) {
                 keep = index;
             }
-            self.spend(1);
+            self.budget.spend(1);
         }
         keep
     }
 
     /// Gives back the excess of each of these nodes, the last first.
-    fn give_back_all(&mut self, done: &Row) {
+    fn give_back_all<V: EngineWatch>(&mut self, done: &Row, poll: &mut Poll<'_, V>) {
         for index in (0..done.len()).rev() {
+            if !poll.goes_on_at(u64::from(index)) {
+                break;
+            }
             self.give_back_from(done.at(index));
         }
     }

@@ -2,4 +2,6 @@
 #![tactic(auto)]
 
 #[cfg(test)]
+mod ending;
+#[cfg(test)]
 mod tests;
