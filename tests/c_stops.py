@@ -14,7 +14,7 @@ QUESTIONS = {
     name.removeprefix("dmf_session_").removesuffix("_until")
     for name in header_calls()
     if name.endswith("_until")
-} - {"solve", "solve_any"}
+} - {"solve"}
 
 
 class Stop:
@@ -31,9 +31,8 @@ class Stop:
         assert (status == OK) == (self.at.value not in (None, ODD_NUMBER))
         want(status)
 
-    def solve(self, session: CSession, word: str = "solve") -> int:
-        call = getattr(self.calls, f"dmf_session_{word}_until")
-        return int(call(session.session, self.at))
+    def solve(self, session: CSession) -> int:
+        return int(self.calls.dmf_session_solve_until(session.session, self.at))
 
     def set(self, word: str) -> None:
         getattr(self.calls, f"dmf_stop_{word}")(self.at)

@@ -3,7 +3,6 @@ use crate::buckets::Buckets;
 use crate::direction::PushDirection;
 use crate::links::{PackedLinks, head_of};
 use crate::list::{Row, power_from, read, write};
-use crate::watch::{Budget, EngineWatch, Poll};
 use dmf_state::NoMemory;
 use std::alloc::Global;
 
@@ -32,7 +31,7 @@ pub struct Engine {
     /// The work of relabels since all labels were exact.
     pub since: u64,
     /// How many looks and pushes are left.
-    pub budget: Budget,
+    pub budget: u64,
 }
 
 impl Engine {
@@ -55,7 +54,7 @@ impl Engine {
             queue: Row::new(alloc, size)?,
             chance: 12_345,
             since: 0,
-            budget: Budget::new(0),
+            budget: 0,
         })
     }
 
@@ -89,23 +88,29 @@ impl Engine {
         read(&self.excess, node, 0)
     }
 
+    /// Takes from the budget.
+    #[inline(always)]
+    pub fn spend(&mut self, work: u32) {
+        self.budget = self.budget.saturating_sub(u64::from(work));
+    }
+
     /// Pushes as much to the goal as can come there, and leaves at nodes on the way what cannot. If the budget ends first, more could come.
-    pub fn push_to_goal<V: EngineWatch>(&mut self, most: u64, poll: &mut Poll<'_, V>) {
-        self.label_all(poll);
+    pub fn push_to_goal(&mut self, most: u64) {
+        self.label_all();
         self.saturate();
-        for _ in 0..self.budget.left {
+        for _ in 0..self.budget {
             let top = self.buckets.top;
-            if self.budget.is_spent(poll) || top == 0 {
+            if self.budget == 0 || top == 0 {
                 return;
             }
-            self.budget.spend(1);
+            self.spend(1);
             let node = self.buckets.take_active(top);
             if node == 0 {
                 self.buckets.top = top.wrapping_sub(1);
             } else if self.label(node) == top {
-                self.discharge(node, poll);
+                self.discharge(node);
                 if self.since > most {
-                    self.label_all(poll);
+                    self.label_all();
                 }
             }
         }

@@ -18,7 +18,6 @@
 #![tactic(auto)]
 
 pub use likely::{Likely, likely_greatest};
-pub use watch::EngineWatch;
 
 mod adoption;
 mod buckets;
@@ -34,4 +33,3 @@ mod members;
 mod phases;
 mod returning;
 mod trees;
-mod watch;

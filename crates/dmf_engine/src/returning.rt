@@ -2,7 +2,6 @@
 use crate::engine::Engine;
 use crate::links::head_of;
 use crate::list::{Row, fill, read, within, write};
-use crate::watch::{EngineWatch, Poll};
 use dmf_state::NoMemory;
 use std::alloc::Global;
 
@@ -33,12 +32,8 @@ struct Cycle {
 
 impl Engine {
     /// Gives back all excess: takes flow off the cycles on which it could run, and then gives back node by node. `false` if the budget
-    /// ended first, or the watch ended the engine. Takes memory for two numbers a node.
-    pub fn give_back<V: EngineWatch>(
-        &mut self,
-        alloc: Global,
-        poll: &mut Poll<'_, V>,
-    ) -> Result<bool, NoMemory> {
+    /// ended first. Takes memory for two numbers a node.
+    pub fn give_back(&mut self, alloc: Global) -> Result<bool, NoMemory> {
         let size = self.nodes as usize + 2;
         let mut walk = Walk {
             places: Row::new(alloc, size)?,
@@ -49,13 +44,13 @@ impl Engine {
         for node in 1..self.nodes.wrapping_add(1) {
             if self.excess_at(node) != 0
                 && self.label(node) == NEW
-                && !self.walk_from(&mut walk, node, poll)
+                && !self.walk_from(&mut walk, node)
             {
                 return Ok(false);
             }
         }
-        self.give_back_all(&walk.done, poll);
-        Ok(!poll.has_ended)
+        self.give_back_all(&walk.done);
+        Ok(true)
     }
 
     /// No walk goes on at either end, and at each other node it begins with the first link.
@@ -70,16 +65,11 @@ impl Engine {
     }
 
     /// Walks until the root is done, and takes each cycle off. `false` if the budget ended first.
-    fn walk_from<V: EngineWatch>(
-        &mut self,
-        walk: &mut Walk,
-        root: u32,
-        poll: &mut Poll<'_, V>,
-    ) -> bool {
+    fn walk_from(&mut self, walk: &mut Walk, root: u32) -> bool {
         let mut node = root;
         write(&mut self.labels, root, ON_WALK);
-        for _ in 0..self.budget.left {
-            if self.budget.is_spent(poll) {
+        for _ in 0..self.budget {
+            if self.budget == 0 {
                 break;
             }
             let place = self.next_step(node);
@@ -119,7 +109,7 @@ impl Engine {
             place = place.wrapping_add(1);
         }
         write(&mut self.currents, node, place);
-        self.budget.spend(place.wrapping_sub(start).wrapping_add(1));
+        self.spend(place.wrapping_sub(start).wrapping_add(1));
         place
     }
 
@@ -175,17 +165,14 @@ impl Engine {
             if !self.direction.can_leave(self.links.at(place).word) {
                 keep = index;
             }
-            self.budget.spend(1);
+            self.spend(1);
         }
         keep
     }
 
     /// Gives back the excess of each of these nodes, the last first.
-    fn give_back_all<V: EngineWatch>(&mut self, done: &Row, poll: &mut Poll<'_, V>) {
+    fn give_back_all(&mut self, done: &Row) {
         for index in (0..done.len()).rev() {
-            if !poll.goes_on_at(u64::from(index)) {
-                break;
-            }
             self.give_back_from(done.at(index));
         }
     }

@@ -2,6 +2,4 @@
 #![tactic(auto)]
 
 #[cfg(test)]
-mod ending;
-#[cfg(test)]
 mod tests;
