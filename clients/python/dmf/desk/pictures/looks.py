@@ -46,7 +46,7 @@ class Beginning:
         """Remember the flows if the desk is at the beginning."""
         if self._desk.at == 1:
             self._flows = self._desk.flows()
-            # Every click asks for this, so no property of the desk is.
+            # Each click comes here: the desk's property `network` would make several calls more.
             self._scale = self._desk.state.network.measure.scale
 
     @property
