@@ -128,25 +128,36 @@ def told_loss(value: int, left: int) -> str:
     return f"{value} → {left}: {f'{value - left} less' if left < value else 'no change'}"
 
 
+def count_requests(driver: Any) -> None:
+    """Has each page of this tab count its requests from now on."""
+    tab, counted = driver.current_window_handle, vars(driver).setdefault("counted", [])
+    if tab not in counted:
+        counted.append(tab)
+        driver.execute_cdp_cmd("Page.addScriptToEvaluateOnNewDocument", {"source": COUNTED})
+
+
+@contextlib.contextmanager
+def before_pages(driver: Any, script: str) -> Iterator[None]:
+    """Runs a script before those of each page that is opened meanwhile. What it does to requests
+    does not change which of them are counted."""
+    count_requests(driver)
+    words = {"source": script}
+    made = driver.execute_cdp_cmd("Page.addScriptToEvaluateOnNewDocument", words)
+    try:
+        yield
+    finally:
+        driver.execute_cdp_cmd("Page.removeScriptToEvaluateOnNewDocument", made)
+
+
 class Page:
     """A page that a browser shows."""
 
     def __init__(self, driver: Any, address: str) -> None:
         self.driver = driver
         if address:
-            self.count_requests()
+            count_requests(driver)
             driver.get(address)
         self.ready()
-
-    def count_requests(self) -> None:
-        """Has each page of this tab count its requests from now on."""
-        tab, counted = self.driver.current_window_handle, vars(self.driver).setdefault(
-            "counted", []
-        )
-        if tab not in counted:
-            counted.append(tab)
-            words = {"source": COUNTED}
-            self.driver.execute_cdp_cmd("Page.addScriptToEvaluateOnNewDocument", words)
 
     def ready(self) -> None:
         script = (

@@ -8,7 +8,7 @@ from pathlib import Path
 from typing import Any
 
 import pytest
-from board_pages import Page, dialog
+from board_pages import Page, before_pages, dialog
 from board_running import Board, board
 from board_views import SCALE, grid_table, spots
 from test_board_access import as_before, show
@@ -139,9 +139,7 @@ def test_dragged(driver: Any, tmp_path: Path) -> None:
 def test_behind(driver: Any, tmp_path: Path) -> None:
     """If only a part of the network is drawn in front, the lines behind it follow too, and the
     names there stay. From afar, where no place is moved, the pointer does not say that one is."""
-    source = {"source": NOTED}
-    found = driver.execute_cdp_cmd("Page.addScriptToEvaluateOnNewDocument", source)
-    with board(grid_table(tmp_path, 22)) as it:
+    with before_pages(driver, NOTED), board(grid_table(tmp_path, 22)) as it:
         show(driver, 1280, "light")
         page = Page(driver, it.address)
         page.wait(lambda: it.told("picture?near=")["has_ground"])
@@ -170,8 +168,6 @@ def test_behind(driver: Any, tmp_path: Path) -> None:
         shown(page, it)
         judge_labels(page)
         as_before(driver)
-    words = {"identifier": found["identifier"]}
-    driver.execute_cdp_cmd("Page.removeScriptToEvaluateOnNewDocument", words)
 
 
 def ends_at(ends: list[list[float]], x: float, y: float) -> int:

@@ -7,7 +7,7 @@ from pathlib import Path
 from typing import Any
 
 import pytest
-from board_pages import Page
+from board_pages import Page, before_pages
 from board_running import board
 from test_board_access import as_before, show
 from test_board_ground import city
@@ -73,10 +73,9 @@ def test_drawn(driver: Any, tmp_path: Path, width: int, scheme: str) -> None:
 
 def test_on_a_map(driver: Any, tmp_path: Path) -> None:
     """On the canvas of a map that is seen whole."""
-    words = city(tmp_path, 20)
     (tmp_path / "asked.csv").write_text("place,demand\nSea,100000\nP3_4,1\n")
-    found = driver.execute_cdp_cmd("Page.addScriptToEvaluateOnNewDocument", {"source": NOTED})
-    with board("--source", "Lake", "--sinks", f"{tmp_path}/asked.csv", *words) as it:
+    words = "--source", "Lake", "--sinks", f"{tmp_path}/asked.csv", *city(tmp_path, 20)
+    with before_pages(driver, NOTED), board(*words) as it:
         show(driver, 1280, "light")
         page = Page(driver, it.address)
         page.press("Smaller")
@@ -89,5 +88,3 @@ def test_on_a_map(driver: Any, tmp_path: Path) -> None:
         # This one gets all.
         assert told["P3_4"][0].startswith("bold") and told["takes 1/1"][1] == told["P3_4"][1]
         as_before(driver)
-    script = {"identifier": found["identifier"]}
-    driver.execute_cdp_cmd("Page.removeScriptToEvaluateOnNewDocument", script)

@@ -9,7 +9,7 @@ from shutil import which
 from typing import Any
 
 import pytest
-from board_pages import Page, dialog
+from board_pages import Page, before_pages, dialog
 from board_running import Board as Running
 from board_running import board
 from board_views import SCALE, grid_table, spots
@@ -146,10 +146,8 @@ def test_all_laid_out(driver: Any, tmp_path: Path) -> None:
     view that was moved stays where it is seen."""
     with board(grid_table(tmp_path, 22)) as it:
         show(driver, 1280, "light")
-        held = driver.execute_cdp_cmd("Page.addScriptToEvaluateOnNewDocument", {"source": HELD})[
-            "identifier"
-        ]
-        page = Page(driver, it.address)
+        with before_pages(driver, HELD):
+            page = Page(driver, it.address)
         assert "300 of 968" in page.text("#drawn-note")
         arc = it.state()["limit"][0]
         page.choose(f"arc-{arc['number']}", arc["short"])
@@ -170,7 +168,6 @@ def test_all_laid_out(driver: Any, tmp_path: Path) -> None:
         assert len(it.told("ground")["nodes"]) == 22 * 22 + 2
         # Once only.
         version = it.told("picture?near=")["version"]
-        driver.execute_cdp_cmd("Page.removeScriptToEvaluateOnNewDocument", {"identifier": held})
         driver.refresh()
         page.ready()
         page.wait(lambda: "All 968 are drawn" in page.text("#drawn-note"))
@@ -189,10 +186,21 @@ return text?.checkVisibility() ? text.textContent : "";
 """
 
 
-def test_a_found_pipe_is_named(driver: Any, tmp_path: Path) -> None:
+# Delays each picture around a place by more than the time for which a view has to rest.
+DELAYED = """{
+const { fetch } = window;
+window.fetch = async (path, ...rest) => {
+  if (/^picture\\?near=[0-9]/.test(path)) await new Promise((go) => { setTimeout(go, 1500); });
+  return fetch(path, ...rest);
+};
+}"""
+
+
+@pytest.mark.parametrize("is_delayed", [False, True])
+def test_a_found_pipe_is_named(driver: Any, tmp_path: Path, is_delayed: bool) -> None:
     """A pipe that is found in a network that is laid out as a whole has its label, although the
-    part of the picture that was drawn in front was elsewhere."""
-    with board(grid_table(tmp_path, 32)) as it:
+    part of the picture that was drawn in front was elsewhere, and also if its part comes late."""
+    with board(grid_table(tmp_path, 32)) as it, before_pages(driver, DELAYED if is_delayed else ""):
         show(driver, 768, "light")
         page = Page(driver, it.address)
         page.wait(lambda: "All 2,048 are drawn" in page.text("#drawn-note"))

@@ -7,7 +7,7 @@ from pathlib import Path
 from typing import Any
 
 import pytest
-from board_pages import Page
+from board_pages import Page, before_pages
 from board_running import board
 from desk_shared import PIPES
 from test_board_access import as_before, show
@@ -194,8 +194,7 @@ def scale(driver: Any) -> float:
 def test_names_on_a_map(driver: Any, tmp_path: Path, width: int) -> None:
     """No name on the canvas lies on another name, at each size, or on a place there, where names
     of all places can be read."""
-    found = driver.execute_cdp_cmd("Page.addScriptToEvaluateOnNewDocument", {"source": NOTED})
-    with board(*city(tmp_path, 20)) as it:
+    with before_pages(driver, NOTED), board(*city(tmp_path, 20)) as it:
         show(driver, width, "light")
         page = Page(driver, it.address)
         counts = []
@@ -213,5 +212,3 @@ def test_names_on_a_map(driver: Any, tmp_path: Path, width: int) -> None:
             page.press("Larger")
         assert max(counts) > 4, counts
         as_before(driver)
-    words = {"identifier": found["identifier"]}
-    driver.execute_cdp_cmd("Page.removeScriptToEvaluateOnNewDocument", words)

@@ -5,7 +5,7 @@ from __future__ import annotations
 from typing import Any
 
 import pytest
-from board_pages import Page
+from board_pages import Page, before_pages
 from board_running import board
 from desk_shared import PIPES, Pipe, greatest, stop_session, water, without
 from tool_runs import wait_until_asked
@@ -140,8 +140,7 @@ def test_answered_meanwhile(driver: Any) -> None:
 def test_late(driver: Any) -> None:
     """A request from a tab that shows an older state changes nothing, and the tab then shows
     the present one."""
-    script = driver.execute_cdp_cmd("Page.addScriptToEvaluateOnNewDocument", {"source": DEAF})
-    with board(PIPES) as it:
+    with before_pages(driver, DEAF), board(PIPES) as it:
         page = Page(driver, it.address)
         page.choose("arc-3", "North rise")
         page.know_worth()
@@ -167,7 +166,6 @@ def test_late(driver: Any) -> None:
         page.wait(lambda: page.value() == 165)
         page.wait(lambda: page.text("#what h3") == "Mill Lane")
         driver.get("about:blank")
-    driver.execute_cdp_cmd("Page.removeScriptToEvaluateOnNewDocument", script)
 
 
 def test_long(driver: Any) -> None:

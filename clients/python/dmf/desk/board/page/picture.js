@@ -57,11 +57,14 @@ export function showNear(node, isMoved = false) {
   return showPicture();
 }
 
-/** Shows what is near the middle of the view, and what is near the selection or the bottleneck once the view is wide again. */
+/**
+ * Shows what is near the middle of the view, and what is near the selection or the bottleneck once the view is wide again. A picture that
+ * was requested, and is not shown yet, may have the selection.
+ */
 function follow() {
-  const node = middlePlace();
-  if (node && String(node) !== now.around.wanted) showNear(node, true);
-  else if (now.around.isFollowing && isFar() && !partOf(theChoice())) showNear("", true);
+  const node = middlePlace(), { wanted, isFollowing } = now.around;
+  if (node && String(node) !== wanted) showNear(node, true);
+  else if (isFollowing && now.drawing.near === wanted && isFar() && !partOf(theChoice())) showNear("", true);
 }
 
 /**
