@@ -3,6 +3,7 @@ use crate::links::{PackedLinks, head_of};
 use crate::list::within;
 use crate::members::{FREE, ORPHAN, ROOT};
 use crate::trees::Trees;
+use crate::watch::{EngineWatch, Poll};
 
 /// A neighbour that may become a parent.
 #[derive(Clone, Copy)]
@@ -15,10 +16,10 @@ struct Candidate {
 
 impl Trees {
     /// Finds another parent for each orphan, or takes it out of its tree, as long as looks are left.
-    pub fn adopt_all(&mut self, links: &PackedLinks) {
-        for _ in 0..self.left {
+    pub fn adopt_all<V: EngineWatch>(&mut self, links: &PackedLinks, poll: &mut Poll<'_, V>) {
+        for _ in 0..self.budget.left {
             let node = self.orphans.take();
-            if node == 0 || self.left == 0 {
+            if node == 0 || self.budget.is_spent(poll) {
                 break;
             }
             let nearest = self.nearest_parent(links, node);
@@ -40,10 +41,10 @@ impl Trees {
         let is_behind = self.members.is_behind(node);
         let mut place = links.start(node);
         for link in within(&links.all, place, links.end(node)) {
-            if self.left == 0 {
+            if self.budget.left <= 0 {
                 break;
             }
-            self.spend(1);
+            self.budget.spend(1);
             // The tree grows from the neighbour to the node, so against the link.
             if self.can_grow(!is_behind, link.word) {
                 let head = head_of(link.word);
@@ -78,7 +79,7 @@ impl Trees {
                 }
             }
         }
-        self.spend(end.wrapping_sub(start));
+        self.budget.spend(end.wrapping_sub(start));
         self.members.put(node, FREE, 0, 0);
     }
 
@@ -86,7 +87,7 @@ impl Trees {
     fn distance(&mut self, links: &PackedLinks, node: u32) -> u32 {
         let mut count = 0u32;
         let mut at = node;
-        for _ in 0..self.left {
+        for _ in 0..self.budget.left {
             let member = self.members.at(at);
             if member.time == self.time {
                 count = count.wrapping_add(member.distance);
@@ -101,7 +102,7 @@ impl Trees {
                 return FREE;
             }
             at = head_of(links.at(member.parent).word);
-            self.spend(1);
+            self.budget.spend(1);
         }
         self.store_distances(links, node, count);
         count

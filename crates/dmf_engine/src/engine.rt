@@ -3,6 +3,8 @@ use crate::buckets::Buckets;
 use crate::direction::PushDirection;
 use crate::links::{PackedLinks, head_of};
 use crate::list::{Row, power_from, read, write};
+use crate::returning::Returning;
+use crate::watch::{Budget, EngineWatch, Poll};
 use dmf_state::NoMemory;
 use std::alloc::Global;
 
@@ -31,16 +33,17 @@ pub struct Engine {
     /// The work of relabels since all labels were exact.
     pub since: u64,
     /// How many looks and pushes are left.
-    pub budget: u64,
+    pub budget: Budget,
 }
 
 impl Engine {
-    /// An engine for these links that has pushed nothing. Takes memory for some numbers a node.
+    /// An engine for these links that has pushed nothing, and may take so many looks and pushes. Takes memory for some numbers a node.
     pub fn new(
         alloc: Global,
         links: PackedLinks,
         nodes: u32,
         direction: PushDirection,
+        budget: Budget,
     ) -> Result<Engine, NoMemory> {
         let size = nodes as usize + 2;
         Ok(Engine {
@@ -54,26 +57,30 @@ impl Engine {
             queue: Row::new(alloc, size)?,
             chance: 12_345,
             since: 0,
-            budget: 0,
+            budget,
         })
     }
 
-    /// The links, with what has been pushed over them.
-    pub fn into_links(self) -> PackedLinks {
+    /// What the second phase needs: the links, with what has been pushed over them, and the excess of each node.
+    pub fn into_returning(self) -> Returning {
         let Engine {
             links,
             nodes: _,
-            direction: _,
+            direction,
             labels: _,
             currents: _,
-            excess: _,
+            excess,
             buckets: _,
             queue: _,
             chance: _,
             since: _,
             budget: _,
         } = self;
-        links
+        Returning {
+            links,
+            direction,
+            excess,
+        }
     }
 
     /// The label of a node.
@@ -88,44 +95,36 @@ impl Engine {
         read(&self.excess, node, 0)
     }
 
-    /// Takes from the budget.
-    #[inline(always)]
-    pub fn spend(&mut self, work: u32) {
-        self.budget = self.budget.saturating_sub(u64::from(work));
-    }
-
     /// Pushes as much to the goal as can come there, and leaves at nodes on the way what cannot. If the budget ends first, more could come.
-    pub fn push_to_goal(&mut self, most: u64) {
-        self.label_all();
+    pub fn push_to_goal<V: EngineWatch>(&mut self, most: u64, poll: &mut Poll<'_, V>) {
+        self.label_all(poll);
         self.saturate();
-        for _ in 0..self.budget {
+        for _ in 0..self.budget.left {
             let top = self.buckets.top;
-            if self.budget == 0 || top == 0 {
+            if self.budget.is_spent(poll) || top == 0 {
                 return;
             }
-            self.spend(1);
+            self.budget.spend(1);
             let node = self.buckets.take_active(top);
             if node == 0 {
                 self.buckets.top = top.wrapping_sub(1);
             } else if self.label(node) == top {
-                self.discharge(node);
+                self.discharge(node, poll);
                 if self.since > most {
-                    self.label_all();
+                    self.label_all(poll);
                 }
             }
         }
     }
 
-    /// For each node whether it is on the source's side of a cut. Once no more can come to the goal, this is a minimum cut: no excess leaves the
-    /// nodes above a label that none has, and giving back goes among these alone. Takes memory for a mark a node.
-    pub fn cut(&self, alloc: Global) -> Result<Vec<bool>, NoMemory> {
+    /// Marks the nodes on the source's side of a cut. Once no more can come to the goal, this is a minimum cut: no excess leaves the nodes
+    /// above a label that none has, and giving back goes among these alone.
+    pub fn mark_cut(&self, marks: &mut [bool]) {
         let gap = self.buckets.gap();
-        let mut marks = vec![in alloc; false; self.nodes as usize + 1]?;
         for node in 1..self.nodes.wrapping_add(1) {
             let is_near_base = self.label(node) >= gap;
-            write(&mut marks, node, is_near_base != self.direction.is_reversed);
+            write(marks, node, is_near_base != self.direction.is_reversed);
         }
-        Ok(marks)
     }
 
     /// Pushes over each link of the base as much as it takes.

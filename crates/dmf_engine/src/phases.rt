@@ -2,6 +2,7 @@
 use crate::direction::PushDirection;
 use crate::links::{PackedLinks, head_of};
 use crate::list::{Row, fill, mask_of, masked, power_from, read, within, write};
+use crate::watch::{EngineWatch, Poll};
 use dmf_state::NoMemory;
 use std::alloc::Global;
 
@@ -85,8 +86,12 @@ impl Phases {
         })
     }
 
-    /// Sends flow over shortest paths, phase after phase, while that pays.
-    pub fn send_all(&mut self, links: &mut PackedLinks) -> PhasesEnd {
+    /// Sends flow over shortest paths, phase after phase, while that pays and the watch goes on.
+    pub fn send_all<V: EngineWatch>(
+        &mut self,
+        links: &mut PackedLinks,
+        poll: &mut Poll<'_, V>,
+    ) -> PhasesEnd {
         let mut end = PhasesEnd {
             is_greatest: false,
             was_near: false,
@@ -97,15 +102,15 @@ impl Phases {
         let mut last = NOTHING;
         for phase in 0..LONGEST {
             let before = self.done;
-            let distance = self.label_all(links);
-            end.is_greatest = distance == FAR;
+            let distance = self.label_all(links, poll);
+            end.is_greatest = distance == FAR && !poll.has_ended;
             if phase == 0 {
                 end.was_near = distance <= NEAR;
             }
-            if distance > LONGEST {
+            if distance > LONGEST || poll.has_ended {
                 break;
             }
-            self.block(links);
+            self.block(links, poll);
             let work = self.done.since(before);
             if phase == 0 {
                 first = work;
@@ -121,22 +126,23 @@ impl Phases {
         end
     }
 
-    /// For each node whether no residual path leads from it to the sink. Takes memory for a mark a node.
-    pub fn cut(&self, alloc: Global) -> Result<Vec<bool>, NoMemory> {
-        let mut marks = vec![in alloc; false; self.nodes as usize + 1]?;
+    /// Marks the nodes from which no residual path leads to the sink.
+    pub fn mark_cut(&self, marks: &mut [bool]) {
         for node in 1..self.nodes.wrapping_add(1) {
-            write(&mut marks, node, read(&self.labels, node, 0) == FAR);
+            write(marks, node, read(&self.labels, node, 0) == FAR);
         }
-        Ok(marks)
     }
 
     /// Labels nodes with their distances to the sink, by a breadth-first search that ends at the source, and answers the source's.
-    fn label_all(&mut self, links: &PackedLinks) -> u32 {
+    fn label_all<V: EngineWatch>(&mut self, links: &PackedLinks, poll: &mut Poll<'_, V>) -> u32 {
         fill(&mut self.labels, FAR);
         write(&mut self.labels, self.forward.goal, 0);
         self.queue.truncate(0);
         self.queue.push(self.forward.goal);
         for index in 0..self.nodes {
+            if !poll.goes_on_at(u64::from(index)) {
+                break;
+            }
             let node = self.queue.at(index);
             if node == 0 || read(&self.labels, self.forward.base, 0) != FAR {
                 break;
@@ -163,10 +169,13 @@ impl Phases {
     }
 
     /// Sends flow until each path of the labels has a full link. Each turn finds a link of the walk, or passes one for good.
-    fn block(&mut self, links: &mut PackedLinks) {
+    fn block<V: EngineWatch>(&mut self, links: &mut PackedLinks, poll: &mut Poll<'_, V>) {
         self.walk.truncate(0);
         let mut node = self.forward.base;
-        for _ in 0..self.most_turns(links) {
+        for turn in 0..self.most_turns(links) {
+            if !poll.goes_on_at(turn) {
+                break;
+            }
             let place = self.next_link(links, node);
             if place < links.end(node) {
                 self.walk.push(place);

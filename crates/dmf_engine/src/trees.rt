@@ -4,6 +4,7 @@ use crate::direction::PushDirection;
 use crate::links::{PackedLinks, head_of};
 use crate::list::{Ring, within, write};
 use crate::members::{FREE, Members, ORPHAN, ROOT};
+use crate::watch::{Budget, EngineWatch, Poll};
 use dmf_state::NoMemory;
 use std::alloc::Global;
 
@@ -19,7 +20,7 @@ pub struct Trees {
     /// How many times links of a node were looked at for growth.
     pub time: u32,
     /// How many looks and steps may still be taken.
-    pub left: u64,
+    pub budget: Budget,
     nodes: u32,
     /// Where the links of the current node are looked at next.
     place: u32,
@@ -34,7 +35,7 @@ impl Trees {
             members: Members::new(alloc, size)?,
             orphans: Ring::new(alloc, size)?,
             time: 0,
-            left: 0,
+            budget: Budget::new(0),
             nodes,
             place: 0,
         };
@@ -43,9 +44,15 @@ impl Trees {
         Ok(trees)
     }
 
-    /// Sends flow over the paths on which the trees meet. Returns `true` once no path is left, or `false` if it stopped after `most` looks.
-    pub fn send_all(&mut self, links: &mut PackedLinks, most: u64) -> bool {
-        self.left = most;
+    /// Sends flow over the paths on which the trees meet. Returns `true` once no path is left, or `false` if it stopped after `most` looks or
+    /// the watch ended the engine.
+    pub fn send_all<V: EngineWatch>(
+        &mut self,
+        links: &mut PackedLinks,
+        most: u64,
+        poll: &mut Poll<'_, V>,
+    ) -> bool {
+        self.budget = Budget::new(most);
         for _ in 0..most {
             let node = self.members.take_active();
             if node == 0 {
@@ -57,29 +64,21 @@ impl Trees {
             } else {
                 self.members.keep(node);
                 self.send(links, meeting);
-                self.adopt_all(links);
+                self.adopt_all(links, poll);
             }
-            if self.left == 0 {
+            if self.budget.is_spent(poll) {
                 break;
             }
         }
         false
     }
 
-    /// For each node whether it is in the source's tree. Takes memory for a mark a node.
-    pub fn cut(&self, alloc: Global) -> Result<Vec<bool>, NoMemory> {
-        let mut marks = vec![in alloc; false; self.nodes as usize + 1]?;
+    /// Marks the nodes of the source's tree.
+    pub fn mark_cut(&self, marks: &mut [bool]) {
         for node in 1..self.nodes.wrapping_add(1) {
             let is_ahead = self.members.at(node).parent != FREE && !self.members.is_behind(node);
-            write(&mut marks, node, is_ahead);
+            write(marks, node, is_ahead);
         }
-        Ok(marks)
-    }
-
-    /// Takes from what is left of the looks.
-    #[inline(always)]
-    pub fn spend(&mut self, looks: u32) {
-        self.left = self.left.saturating_sub(u64::from(looks));
     }
 
     /// Whether a tree can grow over a link with this word, away from its root.
@@ -128,7 +127,7 @@ impl Trees {
             place = place.wrapping_add(1);
         }
         self.place = place;
-        self.spend(place.wrapping_sub(start).wrapping_add(1));
+        self.budget.spend(place.wrapping_sub(start).wrapping_add(1));
         meeting
     }
 
@@ -183,7 +182,7 @@ impl Trees {
             if !self.forward.can_leave(links.at(place).word) {
                 self.lose_parent(at);
             }
-            self.spend(1);
+            self.budget.spend(1);
             at = head_of(links.at(parent).word);
         }
     }

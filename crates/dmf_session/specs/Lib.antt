@@ -1,4 +1,5 @@
 pub mod AppendedEdit
+pub mod Flow
 pub mod Kept
 pub mod Optimal
 pub mod RefusalText
