@@ -189,27 +189,12 @@ enum dmf_status dmf_session_close(dmf_session *session, uint64_t arc);
 /* Closes every open arc that leaves or enters a node, as one change. DMF_NO_SUCH_NODE. */
 enum dmf_status dmf_session_shut(dmf_session *session, uint64_t node);
 
-/* A new capacity, a closing or a shutting as above, unless the flag of `stop` is raised while it takes flow off. Then the answer is
- * DMF_STOPPED, and the session is as it was, with its history. The flag is looked at after each path from which flow is taken. */
-enum dmf_status dmf_session_cap_until(dmf_session *session, uint64_t arc, uint64_t capacity, dmf_stop *stop);
-enum dmf_status dmf_session_close_until(dmf_session *session, uint64_t arc, dmf_stop *stop);
-enum dmf_status dmf_session_shut_until(dmf_session *session, uint64_t node, dmf_stop *stop);
-
 /* Augments the present flow to a maximum flow. Appends a state even if it was one. Refused only if memory is short. */
 enum dmf_status dmf_session_solve(dmf_session *session);
 
 /* Does the same, unless the flag of `stop` is raised before the solve is done. Then the answer is DMF_STOPPED, and the session is as
  * it was, with its history. The flag is looked at before the solve, and after each augmenting path. It stays raised. */
 enum dmf_status dmf_session_solve_until(dmf_session *session, dmf_stop *stop);
-
-/* Gives the session a maximum flow of its network that is found as dmf_session_maximum_flow finds one. On hard networks this is many
- * times faster than dmf_session_solve, but the flow need not be the one that a solve makes. It does not begin at the present flow, so
- * after a small change dmf_session_solve is faster. It is a change: undo gives back the flow before. Refused only if memory is short. */
-enum dmf_status dmf_session_solve_any(dmf_session *session);
-
-/* Does the same, unless the flag of `stop` is raised before it is done. Then the answer is DMF_STOPPED, and the session is as it
- * was. */
-enum dmf_status dmf_session_solve_any_until(dmf_session *session, dmf_stop *stop);
 
 /* ---- Flags, which end a call from another thread -------------------------------------------------------------------------- */
 
@@ -357,13 +342,9 @@ enum dmf_status dmf_session_new_arc_gains(const dmf_session *session, const uint
                                           uint64_t *gains, size_t gain_count);
 
 /* Each does the same as the call without _until in its name, unless the flag of `stop` is raised before it is done. Then the answer
- * is DMF_STOPPED, and nothing is written. The flag is looked at every few milliseconds while a maximum flow is searched for, and
- * before each arc, node or pair is valued. It stays raised. DMF_BAD_LENGTH, DMF_NO_SUCH_ARC, DMF_NO_SUCH_NODE and
- * DMF_NOT_GREATEST are answered whether or not it is raised. If there is nothing to value, the answer may be DMF_OK although it
- * is raised. */
-enum dmf_status dmf_session_maximum_flow_until(const dmf_session *session, uint64_t *value,
-                                               uint64_t *flows, size_t flow_count,
-                                               uint8_t *side, size_t side_count, dmf_stop *stop);
+ * is DMF_STOPPED, and nothing is written. The flag is looked at before each arc, node or pair is valued, and it stays raised.
+ * DMF_BAD_LENGTH, DMF_NO_SUCH_ARC, DMF_NO_SUCH_NODE and DMF_NOT_GREATEST are answered whether or not it is raised. If there is
+ * nothing to value, the answer may be DMF_OK although it is raised. */
 enum dmf_status dmf_session_arc_losses_until(const dmf_session *session, const uint32_t *arcs, size_t arc_count,
                                              uint64_t *losses, size_t loss_count, dmf_stop *stop);
 enum dmf_status dmf_session_node_losses_until(const dmf_session *session, const uint32_t *nodes, size_t node_count,

@@ -327,11 +327,6 @@ public:
     /// long. Throws error with no_such_arc, closed or sum_too_large, or std::bad_alloc.
     void cap(std::uint64_t arc, std::uint64_t capacity) { detail::expect_ok(dmf_session_cap(live(), arc, capacity)); }
 
-    /// Does the same, unless the flag is raised while flow is taken off. Then throws error with stopped.
-    void cap(std::uint64_t arc, std::uint64_t capacity, stop &until) {
-        detail::expect_ok(dmf_session_cap_until(live(), arc, capacity, until.get()));
-    }
-
     /// Adds an arc without flow, and returns its number. Throws error with no_such_node, too_many_arcs or sum_too_large, or
     /// std::bad_alloc.
     std::uint64_t add(std::uint64_t tail, std::uint64_t head, std::uint64_t capacity) {
@@ -343,15 +338,9 @@ public:
     /// with no_such_arc or closed, or std::bad_alloc.
     void close(std::uint64_t arc) { detail::expect_ok(dmf_session_close(live(), arc)); }
 
-    /// Does the same, unless the flag is raised while flow is taken off. Then throws error with stopped.
-    void close(std::uint64_t arc, stop &until) { detail::expect_ok(dmf_session_close_until(live(), arc, until.get())); }
-
     /// Closes every open arc that leaves or enters a node, as one change. May take long, as cap() may. Throws error with
     /// no_such_node, or std::bad_alloc.
     void shut(std::uint64_t node) { detail::expect_ok(dmf_session_shut(live(), node)); }
-
-    /// Does the same, unless the flag is raised while flow is taken off. Then throws error with stopped.
-    void shut(std::uint64_t node, stop &until) { detail::expect_ok(dmf_session_shut_until(live(), node, until.get())); }
 
     /// Augments the present flow to a maximum flow. May take long. Appends a state even if the flow was a maximum
     /// flow. Throws only std::bad_alloc.
@@ -359,13 +348,6 @@ public:
 
     /// Does the same, unless the flag is raised before the solve is done. Then throws error with stopped.
     void solve(stop &until) { detail::expect_ok(dmf_session_solve_until(live(), until.get())); }
-
-    /// Gives the session some maximum flow, which on hard networks is found many times faster than by solve(). It does not
-    /// begin at the present flow, so after a small change solve() is faster. May take long. Throws only std::bad_alloc.
-    void solve_any() { detail::expect_ok(dmf_session_solve_any(live())); }
-
-    /// Does the same, unless the flag is raised before it is done. Then throws error with stopped.
-    void solve_any(stop &until) { detail::expect_ok(dmf_session_solve_any_until(live(), until.get())); }
 
     // ---- Steps: all of them, or none
 
@@ -494,14 +476,6 @@ public:
     std::uint64_t maximum_flow(span<std::uint64_t> flows = {}, span<std::uint8_t> side = {}) const {
         std::uint64_t value = 0;
         detail::expect_ok(dmf_session_maximum_flow(live(), &value, flows.data(), flows.size(), side.data(), side.size()));
-        return value;
-    }
-
-    /// Does the same, unless the flag is raised before the flow is found. Then throws error with stopped.
-    std::uint64_t maximum_flow(span<std::uint64_t> flows, span<std::uint8_t> side, stop &until) const {
-        std::uint64_t value = 0;
-        detail::expect_ok(dmf_session_maximum_flow_until(live(), &value, flows.data(), flows.size(), side.data(), side.size(),
-                                                         until.get()));
         return value;
     }
 

@@ -262,8 +262,7 @@ class CSession:
             for place, count in zip(places, (flow_count, side_count))
             for part in (place if count else None, c_size_t(count))
         ]
-        call = self._question("maximum_flow")
-        status = call(self.session, byref(value), *columns)
+        status = self.calls.dmf_session_maximum_flow(self.session, byref(value), *columns)
         for kind, place, odd in zip(kinds, places, before):
             size = ctypes.sizeof(kind)
             assert bytes(place)[-size:] == odd[-size:] and (status == 0 or bytes(place) == odd)

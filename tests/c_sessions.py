@@ -3,12 +3,10 @@ implementation, which keeps whole states."""
 
 from __future__ import annotations
 
-from dataclasses import replace
 from random import Random
 from typing import NamedTuple
 
 from c_library import CSession, Refused
-from oracle.network import State, is_greatest
 from oracle.session import Session
 from oracle.texts import Fault
 
@@ -37,7 +35,6 @@ def random_step(session: Session, random: Random) -> Step:
         Step("solve"),
         Step("solve"),
         Step("solve"),
-        Step("solve_any"),
         Step("cap", (arc, capacity)),
         Step("cap", (arc, capacity)),
         Step("close", (arc,)),
@@ -58,20 +55,7 @@ def status_of(session: CSession, step: Step) -> int:
     return 0
 
 
-def is_maximum_flow(state: State) -> bool:
-    """Whether the numbers on the arcs are a flow, and no flow has a larger value."""
-    is_within = all(0 <= flow <= arc.cap for arc, flow in zip(state.arcs, state.flows))
-    return is_within and set(state.excesses()) <= {state.source, state.sink} and is_greatest(state)
-
-
-def wanted_status(given: CSession, session: Session, step: Step) -> int:
-    """Take the step in the second implementation, too, and return the status that it has. After a
-    solve by any flow, the library's session gives the flow, which is judged."""
-    if step.word == "solve_any":
-        taken = replace(session.present(), flows=given.array("flows"))
-        assert is_maximum_flow(taken)
-        session.append(taken)
-        return 0
+def wanted_status(session: Session, step: Step) -> int:
     try:
         session.reply(step.word, *step.numbers)
     except Fault as fault:

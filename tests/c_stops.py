@@ -1,21 +1,20 @@
-"""Stops of the C library by ctypes, each a hold of a flag that ends changes and questions."""
+"""Stops of the C library by ctypes, each a hold of a flag that ends solves and questions."""
 
 from __future__ import annotations
 
-from ctypes import byref, c_uint64, c_void_p
+from ctypes import byref, c_void_p
 from typing import Any
 
 from c_arrays import ODD_NUMBER
 from c_library import CSession, Library, header_calls, want
 
 OK, STOPPED = 0, 16
-# What has a call with a stop, too: these changes, and questions.
-CHANGES = {"cap", "close", "shut", "solve", "solve_any"}
+# The questions that have a call with a stop, too.
 QUESTIONS = {
     name.removeprefix("dmf_session_").removesuffix("_until")
     for name in header_calls()
     if name.endswith("_until")
-} - CHANGES
+} - {"solve"}
 
 
 class Stop:
@@ -33,11 +32,7 @@ class Stop:
         want(status)
 
     def solve(self, session: CSession) -> int:
-        return self.step(session, "solve")
-
-    def step(self, session: CSession, word: str, *numbers: int) -> int:
-        call = getattr(self.calls, f"dmf_session_{word}_until")
-        return int(call(session.session, *map(c_uint64, numbers), self.at))
+        return int(self.calls.dmf_session_solve_until(session.session, self.at))
 
     def set(self, word: str) -> None:
         getattr(self.calls, f"dmf_stop_{word}")(self.at)

@@ -138,7 +138,7 @@ LIKE_OTHERS = {
     *(
         f"dmf_session_{call}_until (unchanged)"
         for call in (
-            *("maximum_flow", "node_losses", "pair_losses", "second_gains", "new_arc_gains"),
+            *("node_losses", "pair_losses", "second_gains", "new_arc_gains"),
             *("worst_arcs", "worst_nodes", "worst_pairs"),
         )
     ),

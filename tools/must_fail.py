@@ -30,7 +30,7 @@ AT_ANSWER = re.compile(
 )
 LOST_NAME = re.compile(
     r"is not in scope|has no field|has no `|was not admitted|is no name|operand is missing"
-    r"|expected the end|cannot continue|\(nearest: "
+    r"|expected the end|cannot continue"
 )
 GAVE_UP = re.compile(r"`search` gave|gave up at one of its limits")
 # Why an edit that is not refused at a goal is not, by the beginning of the line.

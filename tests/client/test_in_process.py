@@ -141,8 +141,8 @@ def short(monkeypatch: pytest.MonkeyPatch, word: str, arc: int) -> None:
     calls: Any = loaded.load(library_file())
     call, run = calls.commands[word], calls.run
 
-    def refusing(address: int, number: int, *flag: int) -> int:
-        return NO_MEMORY if number == arc else int(call(address, number, *flag))
+    def refusing(address: int, number: int) -> int:
+        return NO_MEMORY if number == arc else int(call(address, number))
 
     def refusing_among(address: int, *words: Any) -> int:
         kinds = (ctypes.c_uint32 * words[1]).from_address(words[0])

@@ -52,12 +52,11 @@ def test_what_was_broken_off_is_freed_at_its_end(monkeypatch: pytest.MonkeyPatch
     """Ctrl-C leaves a call alone that nothing ends, whose session is freed once the call is done;
     meanwhile the network goes on by another one."""
     monkeypatch.setattr(loaded, "MOST_AT_ONCE", 0)
-    monkeypatch.setattr(loaded, "MOST_STEPS", 0)
     with counted(monkeypatch) as freed, prepared() as network, prepared(
         program=BUILT
-    ) as other, slow_call(monkeypatch, "undo") as (begun, until):
+    ) as other, slow_call(monkeypatch, "close") as (begun, until):
         with pytest.raises(KeyboardInterrupt), interrupted_when(begun.is_set):
-            network.undo()
+            network.close(("lake", "town"))
         assert all_told(network) == all_told(other) and freed == []
         until.set()
         wait_until_freed(freed)
@@ -67,7 +66,6 @@ def test_one_thread_runs_call_after_call(monkeypatch: pytest.MonkeyPatch) -> Non
     """Another one begins only while a call was left and goes on; and a forked process has its
     own."""
     monkeypatch.setattr(loaded, "MOST_AT_ONCE", 0)
-    monkeypatch.setattr(loaded, "MOST_STEPS", 0)
     worker_threads.threads.cache_clear()
     begun: list[object] = []
     begin = _thread.start_new_thread
@@ -81,9 +79,9 @@ def test_one_thread_runs_call_after_call(monkeypatch: pytest.MonkeyPatch) -> Non
         for _ in range(20):
             assert all_told(network) == all_told(other)
         assert len(begun) == 1
-        with slow_call(monkeypatch, "undo") as (is_begun, _):
+        with slow_call(monkeypatch, "close") as (is_begun, _):
             with pytest.raises(KeyboardInterrupt), interrupted_when(is_begun.is_set):
-                network.undo()
+                network.close(("lake", "town"))
             assert all_told(network) == all_told(other)
         assert len(begun) == 2
         child = os.fork()

@@ -1,7 +1,6 @@
 """Questions to the C library that Ctrl-C or another thread ends, such as what is lost without each
 arc: the session is as it was, and goes on. What it is compared with is another network, which was
-never broken off, and for the values the program. And maximum flows of one call, whose session is
-freed."""
+never broken off, and for the values the program."""
 
 from __future__ import annotations
 
@@ -11,10 +10,10 @@ from typing import Any, NamedTuple
 
 import pytest
 from c_library import library_file
-from client_shared import BUILT, PIPE_PAIRS, PIPES, dmf, interrupted_when, pipes, rows_by_number
+from client_shared import BUILT, PIPE_PAIRS, dmf, interrupted_when, pipes, rows_by_number
 from dmf.session import library as loaded
 from dmf.session.base import Ranked
-from dmf.session.statuses import NO_MEMORY, OK, STOPPED
+from dmf.session.statuses import NO_MEMORY, STOPPED
 from limits import SECONDS
 from watched_library import GRID, counted, slow_call, told_by, wait_until_freed
 
@@ -79,25 +78,6 @@ losses = [*network._asked_losses(Ranked.ARCS, columns)]
 cases = [[("close", arc)] for arc in few]
 print(losses == [less - it.value for it in dmf.sweep(network, cases, want_cut=True, jobs=1)])
 print(network.undo(2) == best, network.redo(2) == less, network._session is session, flush=True)
-"""
-)
-# Two chains that arcs of capacity 1 join, all of which a maximum flow fills, since any other arc
-# holds as much as all of them: the engine needs a second to find it. A signal comes meanwhile.
-A_FLOW = (
-    GRID
-    + """
-draw, count = random.Random("combs"), 12_000
-half = range(count // 2)
-rows = [((side, at), (side, at + 1), count) for side in "ab" for at in half[:-1]]
-rows += [(("a", at), ("b", draw.choice(half)), 1) for at in [*half] * 2]
-source, sink = ("a", 0), ("b", half[-1])
-calls = dmf.Network(rows, source, sink)._session.way
-answers = interrupted_within(vars(calls), "maximum_flow")
-try:
-    dmf.value(rows, source, sink)
-except KeyboardInterrupt:
-    print(answers)
-print(dmf.value(rows, source, sink) == count, answers, flush=True)
 """
 )
 pytestmark = pytest.mark.usefixtures("by_library")
@@ -209,32 +189,3 @@ def test_without_memory_for_the_flag(monkeypatch: pytest.MonkeyPatch, name: str)
                 with pytest.raises(dmf.NoMemory, match="^no memory$"):
                     QUESTIONS[name].ask(network)
         assert QUESTIONS[name].ask(network) == QUESTIONS[name].answer
-
-
-@pytest.mark.seconds(3)
-def test_ctrl_c_in_a_maximum_flow() -> None:
-    """A signal to a process of its own: the call ends before the flow is found, and the next one
-    finds it."""
-    assert told_by(A_FLOW) == f"[{STOPPED}]\nTrue [{STOPPED}, {OK}]\n"
-
-
-@pytest.mark.usefixtures("beside")
-def test_a_maximum_flow_is_not_left(monkeypatch: pytest.MonkeyPatch) -> None:
-    """Ctrl-C waits for its end, and its session is freed."""
-    with counted(monkeypatch) as freed:
-        with slow_call(monkeypatch, "maximum_flow") as (begun, until):
-            with pytest.raises(KeyboardInterrupt), interrupted_when(begun.is_set):
-                dmf.value(PIPES, "lake", "sea")
-            assert not until.is_set()
-            wait_until_freed(freed)
-        assert dmf.value(PIPES, "lake", "sea") == 5
-
-
-def test_a_maximum_flow_without_memory_for_the_flag(monkeypatch: pytest.MonkeyPatch) -> None:
-    calls: Any = loaded.load(library_file())
-    for made in "stop_new", "stop_share":
-        with monkeypatch.context() as patched:
-            patched.setattr(calls, made, lambda *_: NO_MEMORY)
-            with pytest.raises(dmf.NoMemory, match="^no memory$"):
-                dmf.value(PIPES, "lake", "sea")
-    assert dmf.value(PIPES, "lake", "sea") == 5

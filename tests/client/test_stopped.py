@@ -10,7 +10,7 @@ from collections.abc import Callable, Iterator
 from typing import Any
 
 import pytest
-from broken_off import CALLS, Step, all_told, prepared
+from broken_off import all_told, prepared
 from c_library import library_file
 from client_shared import BUILT, dmf, interrupted_when
 from dmf.session import library as loaded
@@ -42,12 +42,6 @@ print(answers, network._session is session, [*plan.values()] == [*other.solve().
 print(network.undo(2) == other.undo(2) == 0, network.problem() == other.problem())
 """
 )
-# By the call of the library that a flag ends: a step that makes it. Each change takes flow off.
-ENDED: dict[str, Step] = {
-    "solve_until": CALLS["solve"],
-    "solve_any_until": lambda network: network.solve(any=True),
-    **{word: CALLS[word] for word in ("cap", "close", "shut")},
-}
 pytestmark = pytest.mark.usefixtures("by_library", "beside")
 
 
@@ -74,11 +68,8 @@ def test_ctrl_c() -> None:
     assert told == f"[{STOPPED}] 0\n[{STOPPED}, {OK}, {OK}] True True\nTrue True\n"
 
 
-@pytest.mark.parametrize("name", ENDED)
 @pytest.mark.parametrize("history", [None, 6])
-def test_the_session_goes_on(
-    monkeypatch: pytest.MonkeyPatch, history: int | None, name: str
-) -> None:
+def test_the_session_goes_on(monkeypatch: pytest.MonkeyPatch, history: int | None) -> None:
     """It is neither left nor begun again, and its thread runs the next call."""
     worker_threads.threads.cache_clear()
     begin, threads = _thread.start_new_thread, []
@@ -88,9 +79,9 @@ def test_the_session_goes_on(
     ) as other:
         session = network._session
         for _ in range(3):
-            with slow_call(monkeypatch, name) as (begun, _):
+            with slow_call(monkeypatch, "solve_until") as (begun, _):
                 with pytest.raises(KeyboardInterrupt), interrupted_when(begun.is_set):
-                    ENDED[name](network)
+                    network.solve()
             assert network._session is session and not network._is_broken
             assert all_told(network) == all_told(other)
         assert freed == [] and len(threads) == 1

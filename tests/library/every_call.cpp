@@ -361,8 +361,6 @@ void stopping_questions() {
     const std::array<std::uint64_t, 2> capacities{9, 5};
     std::array<std::uint32_t, 2> first{9, 9}, second{9, 9};
     std::array<std::uint64_t, 2> found{9, 9};
-    std::array<std::uint64_t, 5> flows{9, 9, 9, 9, 9};
-    std::array<std::uint8_t, 4> side{9, 9, 9, 9};
     REFUSED(stopped, session.arc_losses(arcs, found, raised));
     REFUSED(stopped, session.node_losses(heads, found, raised));
     REFUSED(stopped, session.pair_losses(arcs, tails, found, raised));
@@ -371,10 +369,8 @@ void stopping_questions() {
     REFUSED(stopped, (void)session.worst_pairs(first, second, found, {}, raised));
     REFUSED(stopped, session.second_gains(arcs, found, raised));
     REFUSED(stopped, session.new_arc_gains(tails, heads, capacities, found, raised));
-    REFUSED(stopped, session.maximum_flow(flows, side, raised));
     REFUSED(bad_length, session.arc_losses({4, 5, 1}, found, raised));
-    REFUSED(bad_length, session.maximum_flow({flows.data(), 4}, side, raised));
-    EXPECT(first[0] == 9 && second[0] == 9 && found == std::array<std::uint64_t, 2>{9, 9} && flows[0] == 9 && side[0] == 9);
+    EXPECT(first[0] == 9 && second[0] == 9 && found == std::array<std::uint64_t, 2>{9, 9});
     // Of the three that arrive, arc 4 brings two from node 2, and arc 5 one.
     session.arc_losses(arcs, found, stop);
     EXPECT(found == std::array<std::uint64_t, 2>{2, 1});
@@ -392,9 +388,6 @@ void stopping_questions() {
     EXPECT(found == std::array<std::uint64_t, 2>{1, 1});
     session.new_arc_gains(tails, heads, capacities, found, stop);
     EXPECT(found == std::array<std::uint64_t, 2>{2, 5});
-    // Arcs 4 and 5 are full, and they leave all nodes but the sink.
-    EXPECT(session.maximum_flow(flows, side, stop) == 3 && flows[3] == 2 && flows[4] == 1);
-    EXPECT(side == std::array<std::uint8_t, 4>{1, 1, 1, 0} && session.maximum_flow({}, {}, stop) == 3);
     EXPECT(session.value() == 3 && session.past() == 2);
 }
 

@@ -66,7 +66,6 @@ int main() {
     count += is_refused([&] { (void)session.worst_pairs(firsts, seconds, of_arcs, {}, stop); });
     count += is_refused([&] { session.second_gains({1, 2}, {of_arcs.data(), 2}, stop); });
     count += is_refused([&] { session.new_arc_gains({1, 2}, {3, 3}, {4, 4}, {of_arcs.data(), 2}, stop); });
-    count += is_refused([&] { session.maximum_flow(of_arcs, marks, stop); });
     const bool unwritten = of_arcs == std::vector<std::uint64_t>(5, 9) && of_nodes == std::vector<std::uint64_t>(4, 9) &&
                            marks == std::vector<std::uint8_t>(4, 9) && firsts == std::vector<std::uint32_t>(5, 9) &&
                            seconds == std::vector<std::uint32_t>(5, 9);

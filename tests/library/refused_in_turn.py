@@ -17,7 +17,7 @@ from c_library import COMMANDS, NO_MEMORY, CSession, Library, library_folder, wa
 from c_losses import NewArc
 from c_questions import Question, Refusal, answer_of, question
 from c_sessions import CODES, Step, compare, moved_rows, random_step, wanted_status
-from c_stops import CHANGES, QUESTIONS, Stop, Stoppable
+from c_stops import QUESTIONS, Stop, Stoppable
 from oracle.network import State
 from oracle.problem import problem_text
 from oracle.session import Session, SolveReply
@@ -82,16 +82,12 @@ def made(heap: Heap, name: str, library: Library, shared: Stop | None = None) ->
     return stop
 
 
-def take_until(library: Library, heap: Heap, given: CSession, step: Step) -> object:
-    """Take a step with a stop whose flag is not raised."""
+def solve_until(library: Library, heap: Heap, given: CSession) -> object:
+    """Solve with a stop whose flag is not raised."""
     stop = made(heap, "dmf_stop_new", library)
     shared = made(heap, "dmf_stop_share", library, stop)
     stop.set("free")
-    answer = heap.in_turn(
-        f"{step.word}_until",
-        lambda: want(shared.step(given, step.word, *step.numbers)),
-        given.state,
-    )
+    answer = heap.in_turn("solve_until", lambda: want(shared.solve(given)), given.state)
     shared.set("free")
     return answer
 
@@ -108,10 +104,10 @@ def ask(library: Library, heap: Heap, given: CSession, asked: Question, random: 
 
 
 def take(library: Library, heap: Heap, given: CSession, step: Step, random: Random) -> object:
-    """Take a step by its own call, by that with a stop, or as a batch of one command."""
-    if step.word in CHANGES and random.random() < 0.5:
-        return take_until(library, heap, given, step)
-    if step.word not in COMMANDS or random.random() < 0.5:
+    """Take a step by its own call, or as a batch of one command; a solve also with a stop."""
+    if step.word == "solve" and random.random() < 0.5:
+        return solve_until(library, heap, given)
+    if random.random() < 0.5:
         return heap.in_turn(step.word, lambda: given.step(step.word, *step.numbers), given.state)
     rows = [(COMMANDS[step.word], *step.numbers)]
     return heap.in_turn("run", lambda: want(given.run(rows, random)[0]), given.state)
@@ -146,8 +142,8 @@ def play(library: Library, heap: Heap, random: Random) -> None:
     with opened(library, heap, state, bound, random) as given:
         for _ in range(STEPS):
             step = random_step(wanted, random)
+            status = wanted_status(wanted, step)
             answer = take(library, heap, given, step, random)
-            status = wanted_status(given, wanted, step)
             assert answer == (Refusal(status) if status else None), (step, answer)
             compare(given, wanted)
             moved = heap.in_turn("moved", lambda: given.moved(ROOMS), given.state)

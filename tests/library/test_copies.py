@@ -51,7 +51,7 @@ def run_copies(library: Library, random: Random) -> Counter[str]:
     for _ in range(STEPS):
         given, wanted = random.choice(pairs)
         step = random_step(wanted, random)
-        assert status_of(given, step) == wanted_status(given, wanted, step), step
+        assert status_of(given, step) == wanted_status(wanted, step), step
         seen[step.word] += 1
         for each in pairs:
             compare(*each)
@@ -78,7 +78,7 @@ def test_copies(library: Library, batch: int, request: pytest.FixtureRequest) ->
     seen: Counter[str] = Counter()
     for _ in range(networks // BATCHES):
         seen += run_copies(library, random)
-    for word in "solve", "solve_any", "cap", "close", "shut", "add", "undo", "redo":
+    for word in "solve", "cap", "close", "shut", "add", "undo", "redo":
         assert seen[word] > 0, word
     assert seen["copy with a past"] > 0 and seen["copy with a future"] > 0
 

@@ -42,7 +42,6 @@ def step_near_a_cut(session: Session, random: Random) -> Step:
     higher = min(capacity + random.randint(1, 9), 2**64 - 1 - state.capacity_sum() + capacity)
     steps = [
         (8, Step("solve")),
-        (1, Step("solve_any")),
         (8, Step("cap", (arc, higher))),
         (3, Step("cap", (arc, flow // 2))),
         (4, Step("close", (arc,))),
@@ -128,8 +127,8 @@ def run_session(
     ) as given:
         for at in range(steps):
             step = next_step(wanted, random)
-            status = status_of(given, step)
-            assert status == wanted_status(given, wanted, step), step
+            status = wanted_status(wanted, step)
+            assert status_of(given, step) == status, step
             compare(given, wanted)
             lengths = [random.choice([0, 1, 3, len(wanted.present().arcs)]) for _ in range(3)]
             compare_what_moved(given, wanted, lengths)
@@ -148,7 +147,6 @@ def test_random_sessions(library: Library, batch: int, request: pytest.FixtureRe
         seen += run_session(library, random, 50)
     for kind in (
         "solve 0",
-        "solve_any 0",
         "cap 0",
         "cap 3",
         "close 0",

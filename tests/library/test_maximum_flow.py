@@ -13,8 +13,7 @@ import networkx
 import pytest
 import random_cases
 from c_library import BAD_LENGTH, CSession, Library, Refused, library_folder
-from c_sessions import is_maximum_flow
-from oracle.network import Arc, State, smallest_side, solved
+from oracle.network import Arc, State, is_greatest, smallest_side, solved
 
 NODES, ARCS = 4, 5
 FEW, MANY, BATCHES = 400, 40_000, 4
@@ -136,8 +135,10 @@ def test_random_sessions(library: Library, batch: int, request: pytest.FixtureRe
             )
             value, flows, side = found(session)
             now = replace(wanted, arcs=arcs, flows=flows)
+            assert all(0 <= flow <= arc.cap for flow, arc in zip(flows, arcs))
+            assert set(now.excesses()) <= set(ends)
             best = solved(replace(now, flows=(0,) * len(arcs)))
-            assert now.value() == value == best.value() and is_maximum_flow(now)
+            assert now.value() == value == best.value() and is_greatest(now)
             assert smallest_side(best) == ([v for v, mark in enumerate(side, 1) if mark], value)
             some_sent += value > 0
     assert some_sent > count // 4

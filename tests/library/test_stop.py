@@ -1,26 +1,18 @@
-"""Changes that another thread ends: dmf_stop_* and the calls of dmf.h for changes whose names end
-with _until, mostly that of a solve."""
+"""Solves that another thread ends: dmf_stop_* and dmf_session_solve_until."""
 
 from __future__ import annotations
 
 import subprocess
 import time
-from collections import Counter
 from collections.abc import Iterator
 from pathlib import Path
-from random import Random
 from threading import Timer
 
 import pytest
-import random_cases
 from c_library import ROOT, Library, compiled, library_folder
-from c_sessions import compare, random_step, status_of, wanted_status
-from c_stops import CHANGES, OK, STOPPED, Stop
+from c_stops import OK, STOPPED, Stop
 from limits import SECONDS
 from make_network import problem_of
-from oracle.session import Session, SolveReply
-
-FEW, MANY, BATCHES, STEPS = 400, 40_000, 4, 20
 
 
 @pytest.fixture(scope="module")
@@ -64,38 +56,6 @@ def test_a_flag_that_was_raised_ends_each_solve(library: Library, stop: Stop, sh
         assert session.state() == before and session.number("future") == 1
         stop.set("clear")
         assert shared.solve(session) == OK and session.number("value") == 5
-
-
-@pytest.mark.seconds(3)
-@pytest.mark.parametrize("batch", range(BATCHES))
-def test_random_changes(
-    library: Library, stop: Stop, shared: Stop, batch: int, request: pytest.FixtureRequest
-) -> None:
-    """A raised flag ends a change that has flow to move, and the session is as it was; others, and
-    faults, may be answered. Once the flag is down, each does what it does without a flag."""
-    random = Random(f"stop {request.config.getoption('--seed')} {batch}")
-    count = (MANY if request.config.getoption("--long") else FEW) // BATCHES
-    stopped: Counter[str] = Counter()
-    for _ in range(count):
-        network = random_cases.fitting(random_cases.network(random, 7))
-        wanted, ends = Session(network, SolveReply()), (network.source, network.sink)
-        with library.open(network.nodes, ends, [arc[:3] for arc in network.arcs]) as session:
-            for _ in range(STEPS):
-                step = random_step(wanted, random)
-                if step.word not in CHANGES:
-                    assert status_of(session, step) == wanted_status(session, wanted, step)
-                    continue
-                before = session.state()
-                shared.set("raise")
-                status = stop.step(session, step.word, *step.numbers)
-                shared.set("clear")
-                if status == STOPPED:
-                    stopped[step.word] += 1
-                    assert session.state() == before
-                    status = stop.step(session, step.word, *step.numbers)
-                assert status == wanted_status(session, wanted, step)
-                compare(session, wanted)
-    assert {*stopped} == CHANGES
 
 
 def test_another_flag_ends_nothing(library: Library, stop: Stop) -> None:

@@ -23,7 +23,7 @@ from c_library import (
     library_folder,
 )
 from c_losses import changed, present
-from c_questions import Refusal, answer_of, gains, losses, maximum, pairs, worst
+from c_questions import Refusal, answer_of, gains, losses, pairs, worst
 from c_stops import QUESTIONS, STOPPED, Stop, Stoppable
 from make_network import problem_of
 
@@ -69,7 +69,7 @@ def test_random_networks(
             if random.random() < 0.1:
                 session.step("add", *ends, 3)
             now, before, it = present(session, wanted), session.state(), Stoppable(session, stop)
-            for kind in losses, pairs, worst, gains, maximum:
+            for kind in losses, pairs, worst, gains:
                 asked = kind(now, random)
                 assert answer_of(lambda: asked.ask(it)) == asked.answer, asked
                 shared.set("raise")
@@ -97,15 +97,13 @@ FAULTS: list[tuple[Ask, int]] = [
     (lambda it: it.worst("pairs", [2, 2, 1]), BAD_LENGTH),
     (lambda it: it.second_gains([1, 2], 1), BAD_LENGTH),
     (lambda it: it.new_arc_gains([1, 2], [3, 4], [5], 2), BAD_LENGTH),
-    (lambda it: it.maximum_flow(4, 4), BAD_LENGTH),
-    (lambda it: it.maximum_flow(0, 3), BAD_LENGTH),
     (lambda it: it.losses("arc", [1, 6], 2), NO_SUCH_ARC),
     (lambda it: it.losses("node", [5, 1], 2), NO_SUCH_NODE),
     (lambda it: it.pair_losses([1, 0], [1, 1], 2), NO_SUCH_ARC),
     (lambda it: it.second_gains([0], 1), NO_SUCH_ARC),
     (lambda it: it.new_arc_gains([1], [5], [5], 1), NO_SUCH_NODE),
 ]
-# Each of the calls, with something to find. All but the last one value parts of a maximum flow.
+# Each of the calls, with something to find.
 ASKED: dict[str, Ask] = {
     "arc_losses": lambda it: it.losses("arc", [1, 2], 2),
     "node_losses": lambda it: it.losses("node", [2], 1),
@@ -115,7 +113,6 @@ ASKED: dict[str, Ask] = {
     "worst_pairs": lambda it: it.worst("pairs", [2, 2, 2]),
     "second_gains": lambda it: it.second_gains([5], 1),
     "new_arc_gains": lambda it: it.new_arc_gains([1], [4], [7], 1),
-    "maximum_flow": lambda it: it.maximum_flow(5, 4),
 }
 
 
@@ -130,7 +127,7 @@ def test_faults(library: Library, stop: Stop, is_raised: bool) -> None:
             for ask, status in FAULTS:
                 assert answer_of(lambda: ask(it)) == Refusal(status)
             if not session.number("past"):
-                for ask in [*ASKED.values()][:-1]:
+                for ask in ASKED.values():
                     assert answer_of(lambda: ask(it)) == Refusal(NOT_GREATEST)
                 session.step("solve")
 
@@ -155,7 +152,7 @@ def test_nothing_to_find(library: Library, stop: Stop) -> None:
 def test_the_flag_stays_raised_until_it_is_taken_down(
     library: Library, stop: Stop, shared: Stop
 ) -> None:
-    assert {*ASKED} == {*LONG, "maximum_flow"} == QUESTIONS
+    assert {*ASKED} == {*LONG} == QUESTIONS
     with library.example() as session:
         session.step("cap", 5, 1)
         session.step("solve")
@@ -242,49 +239,3 @@ def test_a_long_call_is_ended(
     if not call.startswith("worst"):
         assert LONG[call](it, few) == LONG[call](long.session, few)
     assert it.worst("arcs", [5, 5]) == long.session.worst("arcs", [5, 5])
-
-
-# How many teeth join the two chains, and after how many milliseconds the flag is raised: at once,
-# soon, and in the midst of a search of a second.
-TEETH, MOMENTS = 10_000, (0, 50, 300)
-
-
-@pytest.fixture(scope="module")
-def combed(library: Library) -> Iterator[CSession]:
-    """Two chains, the first of which leads from the source over teeth of capacity 1 into the
-    second, which leads to the sink. Any other arc holds as much as all teeth, so each tooth is full
-    in a maximum flow. Paths have every length."""
-    random, half = Random("combs"), TEETH // 2
-    chains = [(at, at + 1, TEETH) for at in range(1, TEETH) if at != half]
-    teeth = [(at // 2 + 1, random.randint(half + 1, TEETH), 1) for at in range(TEETH)]
-    with library.open(TEETH, (1, TEETH), chains + teeth) as session:
-        yield session
-
-
-@pytest.mark.seconds(2)
-@pytest.mark.parametrize("milliseconds", MOMENTS)
-def test_a_long_maximum_flow_is_ended(
-    library: Library, stop: Stop, shared: Stop, combed: CSession, milliseconds: int
-) -> None:
-    """Within a tenth of a second of processor time after the flag is raised. The same call without
-    a raised flag finds the flow, which fills each tooth."""
-    it, arcs = Stoppable(combed, stop), combed.number("arcs")
-    raised: list[float] = []
-    clock = time.pthread_getcpuclockid(get_ident())
-
-    def put_up() -> None:
-        raised.append(time.clock_gettime(clock))
-        shared.set("raise")
-
-    timer = Timer(milliseconds / 1_000, put_up)
-    timer.start()
-    assert answer_of(lambda: it.maximum_flow(arcs, TEETH)) == Refusal(STOPPED)
-    ended = time.clock_gettime(clock)
-    timer.join()
-    assert ended - raised[0] < 0.1
-    stop.set("clear")
-    if milliseconds == MOMENTS[-1]:
-        value, flows, side = it.maximum_flow(arcs, TEETH)
-        assert value == TEETH and flows[-TEETH:] == (1,) * TEETH
-        # The arcs of the first chain are not full, so the source still reaches each of its nodes.
-        assert side == (1,) * (TEETH // 2) + (0,) * (TEETH // 2)

@@ -4,15 +4,12 @@ trials, scenarios, and projects that are closed and opened again."""
 from __future__ import annotations
 
 from collections.abc import Sequence
-from dataclasses import replace
 from pathlib import Path
 from random import Random
 from typing import Any
 
 import pytest
 from c_library import library_file
-from c_sessions import is_maximum_flow
-from dmf.desk import live_network
 from dmf.desk.project.opener import project_desk
 from dmf.desk.project.scenarios import Scenarios, project_of
 from dmf.desk.steps import DeskFault, MakePlace, Place
@@ -67,14 +64,6 @@ def read(text: str, nodes: dict[str, int]) -> Whole:
     arcs = tuple(Arc(nodes[tail], nodes[head], int(capacity)) for tail, head, capacity in rows)
     state = State(len(nodes), nodes["s"], nodes["t"], arcs, (0,) * len(arcs))
     return Whole(state, tuple(arc.cap for arc in arcs)).changed("solve")
-
-
-def begun(first: Whole, desk: Desk) -> Whole:
-    """Return the state with which a desk begins, of a network that is solved plainly in `first`. A
-    large one may have any maximum flow."""
-    network = replace(first.network, flows=tuple(desk.arc_flows()))
-    assert is_maximum_flow(network)
-    return first._replace(network=network) if live_network.LARGE <= len(network.arcs) else first
 
 
 class Player:
@@ -188,8 +177,9 @@ class Lockstep:
         names = desk.network.names
         self._names = [names.node(node) for node in range(1, len(names.places) + 1)]
         self.project = player(desk, self._names)
-        first = read(text, {name: number for number, name in enumerate(self._names, 1)})
-        self.model = DeskModel(begun(first, desk))
+        self.model = DeskModel(
+            read(text, {name: number for number, name in enumerate(self._names, 1)})
+        )
         self._text = desk.network.subject.text
         self.desk = self._new_desk()
 
@@ -277,8 +267,5 @@ def test_lockstep(
     batch: int, tmp_path: Path, request: pytest.FixtureRequest, monkeypatch: pytest.MonkeyPatch
 ) -> None:
     monkeypatch.setenv("DMF_LIBRARY", library_file())
-    if batch % 2:
-        # Also a small network counts as large.
-        monkeypatch.setattr(live_network, "LARGE", 1)
     count = (LONG if request.config.getoption("--long") else GATE) // ACTS // BATCHES
     play(Player, WORDS, f"desk {batch}", count, tmp_path)

@@ -87,7 +87,11 @@ class Session:
 
     def changed(self, word: str, *rest: int) -> bytes:
         state = CHANGES[word](self.present(), *rest)
-        self.append(state)
+        self.states = self.states[: self.place + 1] + [state]
+        self.place += 1
+        if self.place > self.bound:
+            del self.states[0]
+            self.place -= 1
         if word == "solve":
             solved = (
                 written("c", word, "value", state.value())
@@ -97,14 +101,6 @@ class Session:
             return solved + (cut_of(state) if self.wanted.cut else b"")
         number = [len(state.arcs)] if word == "add" else []
         return written("c", word, *number, "value", state.value())
-
-    def append(self, state: State) -> None:
-        """Makes a state the present one, in place of those that were undone."""
-        self.states = self.states[: self.place + 1] + [state]
-        self.place += 1
-        if self.place > self.bound:
-            del self.states[0]
-            self.place -= 1
 
     def move(self, word: str, count: int) -> None:
         if word == "undo" and count > self.place:

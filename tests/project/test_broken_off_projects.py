@@ -67,7 +67,7 @@ def test_it_goes_on(project: Any, call: str, asked: str, monkeypatch: pytest.Mon
     before = told(project)
     assert project.value == without("Bridge pipe")
 
-    def broken_off(network: Any, *_: object, **__: object) -> object:
+    def broken_off(network: Any, *_: object) -> object:
         # As Ctrl-C in the midst of the call: the session may have done it or not.
         network._session.kill("the session was ended when a call was broken off")
         raise KeyboardInterrupt

@@ -22,7 +22,7 @@ def test_what_is_not_tried_is_said(tmp_path: Path, monkeypatch: pytest.MonkeyPat
     no losses in a network that is too large to ask for them."""
     monkeypatch.setenv("DMF_LIBRARY", "")
     monkeypatch.setattr(project_findings, "MOST_TRIED", 2)
-    monkeypatch.setattr(project_findings, "MOST_VALUED", 14)
+    monkeypatch.setattr(project_findings, "LARGE", 15)
     desk = water_project(tmp_path)
     found, wanted = findings(desk).tried, swept()
     assert found.losses and found.losses.worst_arcs.more == len(
@@ -32,7 +32,7 @@ def test_what_is_not_tried_is_said(tmp_path: Path, monkeypatch: pytest.MonkeyPat
     assert gains == {name: wanted[name][1] - 165 for name in ("North rise", "Mill Lane")}
     said = "A second one was tried beside the first 2 of the 3 parts of the bottleneck"
     assert said in Page(report(desk)).text
-    monkeypatch.setattr(project_findings, "MOST_VALUED", 13)
+    monkeypatch.setattr(project_findings, "LARGE", 14)
     text = Page(report(desk)).text
     assert "There are too many pipes here to find what the loss of each would cost." in text
     assert findings(desk).tried.losses is None and "loses" not in text

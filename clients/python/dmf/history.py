@@ -11,10 +11,6 @@ from .errors import HistoryOutOfRange, NothingToRedo, NothingToUndo
 
 # A command of a session: its word and its numbers, as ("cap", 3, 5).
 Command = Tuple[Any, ...]
-# A solve goes on from the present flow, and makes the flow that it is defined to make, or makes any
-# maximum flow from scratch.
-SOLVE: Command = ("solve",)
-SOLVE_ANY: Command = ("solve", "any")
 
 
 class Change:

@@ -8,11 +8,13 @@ from collections.abc import Callable, Hashable, Sequence
 from .arcs import Arc
 from .columns import Node
 from .errors import ArcIsOpen
-from .history import SOLVE, SOLVE_ANY, Change
+from .history import Change
 from .presentation import Presentable
 from .rows import Whole, whole
 from .session_holder import exclusive
 from .solution import Solution
+
+SOLVE = ("solve",)
 
 
 class ChangeableNetwork(Presentable[Node]):
@@ -260,17 +262,10 @@ class ChangeableNetwork(Presentable[Node]):
         return arc
 
     @exclusive
-    def solve(self, any: bool = False) -> Solution[Node]:
+    def solve(self) -> Solution[Node]:
         """Make the flow a maximum flow, going on from the present one.
 
         That is a change, which `undo` takes back.
-
-        Parameters
-        ----------
-        any
-            True for any maximum flow, found from scratch: many times faster on a hard network, and
-            slower after a small change. Another version of dmf may find another one. Without the C
-            library, it is the one that a solve always makes.
 
         Returns
         -------
@@ -283,8 +278,7 @@ class ChangeableNetwork(Presentable[Node]):
         >>> plan.value, plan["a", "b"]
         (2, 2)
         """
-        command = SOLVE_ANY if any else SOLVE
-        self._kept.note(Change(command), self._changed(command))
+        self._kept.note(Change(SOLVE), self._changed(SOLVE))
         return self._solution(self._flows())
 
     def undo(self, count: int = 1) -> int:

@@ -45,7 +45,7 @@ class ScaledChanges(ChangeableNetwork[Node]):
         def add(self, tail: Node, head: Node, capacity: Any, key: Hashable = None) -> Arc[Node]:
             ...
 
-        def solve(self, any: bool = False) -> ScaledSolution[Node]:
+        def solve(self) -> ScaledSolution[Node]:
             ...
 
         def flow(self) -> ScaledSolution[Node]:

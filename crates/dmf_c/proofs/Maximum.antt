@@ -4,15 +4,11 @@ use Rattle.std.specs.Bool.{MatchBool}
 use Rattle.std.proofs.lemmas.Bool.{or_cases, eqb-true, eqb-false, lt-ltb, le-ltb}
 use Rattle.dmf_state.specs.Flow.{flow_value}
 use Rattle.dmf_state.specs.Network.{Network, IsNetwork}
-use Rattle.dmf_state.specs.NetworkState.{NetworkState, with_flows}
+use Rattle.dmf_state.specs.NetworkState.{NetworkState}
 use Rattle.dmf_state.specs.Side.{CutSide}
 use Rattle.dmf_solver.specs.Greatest.{IsGreatest}
 use Rattle.dmf_solver.specs.Laws.{GreatestIsOptimal}
 use Rattle.dmf_solver.specs.Planning.{IsSideWanted}
-use Rattle.dmf_history.specs.Timeline.{Timeline}
-use Rattle.dmf_session.specs.Flow.{AppendsFlow, HasPresentNetwork}
-use Rattle.dmf_session.specs.Optimal.{HasOptimalPresent}
-use Rattle.dmf_session.proofs.Optimal.{present-appended}
 use Rattle.dmf_c.specs.Arrays.{MarksSide}
 use Rattle.dmf_c.specs.MaximumFlow.{IsOptimalValue, IsMaximumFlow, HasFlowsWanted, MarksSideWanted, MarksIfSome}
 use Rattle.dmf_c.specs.Ranges.{is_column}
@@ -37,17 +33,6 @@ module _ (n : Network) (s : NetworkState) (value : ℕ) (same : s.network ≡ n)
           let found : IsMaximumFlow s.network value s.flows = record { greatest = greatest; value_is = is } in
           let own : IsMaximumFlow n value s.flows = subst (λ (m : Network). IsMaximumFlow m value s.flows) same found in
           subst (λ (flows : List ℕ). IsMaximumFlow n value flows) (sym written) own
-
--- A greatest flow that was appended is the present one.
-pub taken-optimal : GreatestIsOptimal → (t u : Timeline) (s : NetworkState) → HasPresentNetwork s.network t → IsGreatest s.network s.flows
-    → AppendsFlow s.flows t u → HasOptimalPresent u
-taken-optimal law t u s same greatest a =
-    let own = with_flows a.state s.flows in
-    record {
-      state = own;
-      present = present-appended t u a.state own a.present a.appends;
-      optimal = law own a.is_state.network (subst (λ (n : Network). IsGreatest n s.flows) (same a.state a.present) greatest);
-    }
 
 -- An array that is wanted has a place for each.
 pub column : (count given : ℕ) → is_column count given ≡ true → 0 < given → given ≡ count

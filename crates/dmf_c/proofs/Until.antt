@@ -1,7 +1,6 @@
 -- What follows from the number of the answer to a call that a flag may have ended.
 use Rattle.std.proofs.Common.{ℕ, ◌≡◌, ◌≢◌, Bool, true, false, [], ◌∷◌, Result, Ok, Err, inl, inr, refl, sym, subst, ◌∙◌}
 use Rattle.dmf_history.specs.Timeline.{Timeline}
-use Rattle.dmf_session.specs.declared.command.Command.{Command}
 use Rattle.dmf_session.specs.declared.command.Command.TheVariants.{Solve}
 use Rattle.dmf_session.specs.declared.command.Reply.{Reply}
 use Rattle.dmf_session.specs.declared.command.Refusal.{Refusal}
@@ -12,13 +11,12 @@ use Rattle.dmf_c.specs.Status.{IsOneOf, DMF_OK, DMF_NO_MEMORY, DMF_STOPPED}
 use Rattle.dmf_c.proofs.Answered.{kept}
 
 module _ (t u : Timeline) where
-  -- The command was answered, or ended.
-  pub until-answers : (command : Command) (answer : Result Reply Refusal) (has_stopped : Bool) → Answers false t command answer u
-      → AnswersUntil t command (until_code answer has_stopped) u
-  until-answers command (Err NoMemory) true a = inl (refl, a.1)
-  until-answers command answer has_stopped a = inr (record { answer = answer; answers = a; code_is = refl })
+  -- The solve was answered, or ended.
+  pub until-answers : (answer : Result Reply Refusal) (has_stopped : Bool) → Answers false t Solve answer u → AnswersUntil t (until_code answer has_stopped) u
+  until-answers (Err NoMemory) true a = inl (refl, a.1)
+  until-answers answer has_stopped a = inr (record { answer = answer; answers = a; code_is = refl })
 
-  -- A solve has three numbers.
+  -- There are three numbers.
   pub until-among : (answer : Result Reply Refusal) (has_stopped : Bool) → Answers false t Solve answer u
       → IsOneOf (until_code answer has_stopped) (DMF_OK ∷ DMF_NO_MEMORY ∷ DMF_STOPPED ∷ [])
   until-among (Ok reply) has_stopped a = refl
@@ -27,9 +25,9 @@ module _ (t u : Timeline) where
   until-among (Err refusal) has_stopped a = absurd (let no : ⊥ = cc a.2.told in no)
 
   -- A number other than 0 says that nothing has changed.
-  pub until-kept : (command : Command) (code : ℕ) → AnswersUntil t command code u → code ≢ DMF_OK → u ≡ t
-  until-kept command code (inl ended) not_ok = ended.1
-  until-kept command code (inr answered) not_ok = kept t u command code answered not_ok
+  pub until-kept : (code : ℕ) → AnswersUntil t code u → code ≢ DMF_OK → u ≡ t
+  until-kept code (inl ended) not_ok = ended.1
+  until-kept code (inr answered) not_ok = kept t u Solve code answered not_ok
 
 -- A call that a flag may have ended has one of the answers of the plain call, or was ended where memory would be refused.
 pub ended-answer : (Answer : ℕ → Type 0) (plain code : ℕ) → Answer plain → Ends plain code → OrEnded Answer code

@@ -4,6 +4,7 @@ use Rattle.std.specs.Prelude.{ℕ, ◌≡◌, ◌⊎◌, Bool, Result, Ok, Err, 
 use Rattle.dmf_state.specs.Arc.{open_arc}
 use Rattle.dmf_state.specs.NetworkState.{NetworkState, with_idle_arc}
 use Rattle.dmf_session.specs.declared.command.Command.{Command}
+use Rattle.dmf_session.specs.declared.command.Command.TheVariants.{Solve}
 use Rattle.dmf_session.specs.declared.command.Reply.{Reply}
 use Rattle.dmf_session.specs.declared.command.Refusal.{Refusal}
 use Rattle.dmf_session.specs.declared.command.Refusal.TheVariants.{UnknownCommand, FieldCount, NotANumber, TooLarge, LineTooLong}
@@ -42,15 +43,14 @@ pub record AnswersCode (t : Timeline) (command : Command) (code : ℕ) (u : Time
   pub answers : Answers false t command answer u
   pub code_is : code ≡ answer_code answer
 
--- the number of a command's answer, if a flag may have ended the command: if it has, that is why the command was refused
+-- the number of a solve's answer, if a flag may have ended the solve: if it has, that is why the solve was refused
 abbrev pub until_code : Result Reply Refusal → Bool → ℕ
 until_code (Err NoMemory) true = DMF_STOPPED
 until_code answer has_stopped = answer_code answer
 
--- A command that a flag may end has an answer of this number, and leaves the timeline `u`: that of the command, or it was ended and `u`
--- is `t`.
-abbrev pub AnswersUntil : Timeline → Command → ℕ → Timeline → Type 0
-AnswersUntil t command code u = ((code ≡ DMF_STOPPED) × (u ≡ t)) ⊎ AnswersCode t command code u
+-- A solve that a flag may end has an answer of this number, and leaves the timeline `u`: that of the solve, or it was ended and `u` is `t`.
+abbrev pub AnswersUntil : Timeline → ℕ → Timeline → Type 0
+AnswersUntil t code u = ((code ≡ DMF_STOPPED) × (u ≡ t)) ⊎ AnswersCode t Solve code u
 
 -- The answer to a call that a flag may end, in place of one of this number: the same, or that it was ended where memory would be refused.
 abbrev pub Ends : ℕ → ℕ → Type 0

@@ -1,13 +1,11 @@
--- What C gets of a maximum flow of a network: its value, the flows, and the smallest side, or a state with these flows.
+-- What C gets of a maximum flow of a network: its value, the flows, and the smallest side.
 -- Public: a public contract says no more than this.
 use Rattle.std.specs.Prelude.{ℕ, ◌≡◌, ◌+◌, ◌<◌, ◌==◌, ◌&&◌, ◌⊎◌, List, length, slice_index, pos, if◌then◌else◌, MatchBool, Option, None, Some}
 use Rattle.dmf_state.specs.Flow.{flow_value}
 use Rattle.dmf_state.specs.Network.{Network}
-use Rattle.dmf_state.specs.NetworkState.{NetworkState, with_flows}
 use Rattle.dmf_state.specs.Side.{CutSide, has_node}
 use Rattle.dmf_solver.specs.Greatest.{IsGreatest}
 use Rattle.dmf_solver.specs.Optimal.{IsOptimal}
-use Rattle.dmf_history.specs.Timeline.{Timeline, IsPresent, appended}
 use Rattle.dmf_c.specs.Arrays.{MarksSide}
 use Rattle.dmf_c.specs.Ranges.{is_column}
 use Rattle.dmf_c.specs.Status.{DMF_OK, DMF_NO_MEMORY, DMF_BAD_LENGTH}
@@ -23,14 +21,6 @@ pub record IsOptimalValue (n : Network) (value : ℕ) : Type 0 where
 pub record IsMaximumFlow (n : Network) (value : ℕ) (flows : List ℕ) : Type 0 where
   pub greatest : IsGreatest n flows
   pub value_is : pos value ≡ flow_value n flows
-
--- The present state is appended with some flow in place of its own, of which no flow of the network has a larger value.
-pub record AppendsMaximumFlow (t u : Timeline) : Type 0 where
-  pub state : NetworkState
-  pub present : IsPresent t state
-  pub flows : List ℕ
-  pub greatest : IsGreatest state.network flows
-  pub appends : u ≡ appended t (with_flows state flows)
 
 -- The answer to a caller that asks for a maximum flow with arrays of these lengths for the flows and for the side: that one of them has neither a
 -- place for each arc or node nor none at all; that all is written; or that memory was refused.

@@ -1,20 +1,16 @@
-//! Some maximum flow of the present network, which an engine finds sooner than a solve does: beside the session, or as a change.
-ghost use Rattle.std.specs.Prelude.{◌≡◌, ◌≢◌, ◌^◌, ◌<◌, ◌==◌, ◌∷◌, [], length, IfOk, IsTrue, MatchBool};
-ghost use Rattle.dmf_session.specs.Optimal.{HasOptimalPresent};
+//! Some maximum flow of the present network, which an engine finds sooner than a solve does.
+ghost use Rattle.std.specs.Prelude.{◌≡◌, ◌≢◌, ◌^◌, ◌<◌, ◌==◌, length, IfOk, IsTrue, MatchBool};
 ghost use Rattle.dmf_solver.specs.Greatest.{IsGreatest};
 ghost use Rattle.dmf_solver.specs.Planning.{IsSideWanted};
-ghost use Rattle.dmf_c.specs.Codes.{OfPresent, OrEnded};
-ghost use Rattle.dmf_c.specs.Status.{IsOneOf, DMF_OK, DMF_NO_MEMORY, DMF_STOPPED};
-ghost use Rattle.dmf_c.specs.MaximumFlow.{AnswersMaximumFlow, AppendsMaximumFlow, IsOptimalValue, HasFlowsWanted, MarksSideWanted, MarksIfSome};
+ghost use Rattle.dmf_c.specs.Codes.{OfPresent};
+ghost use Rattle.dmf_c.specs.Status.{DMF_OK};
+ghost use Rattle.dmf_c.specs.MaximumFlow.{AnswersMaximumFlow, IsOptimalValue, HasFlowsWanted, MarksSideWanted, MarksIfSome};
 ghost use Rattle.dmf_c.specs.Ranges.{is_column};
 
 use crate::arrays::mark;
-use crate::flag::StopWatch;
 use crate::handle::Handle;
 use crate::ranges::is_column;
-use crate::stop::Stop;
-use crate::stopping::ended_code;
-use dmf_solver::{Unwatched, Watch, greatest_is_optimal};
+use dmf_solver::{Unwatched, greatest_is_optimal};
 use dmf_solving::{Solved, solve_any};
 use dmf_state::{NoMemory, Side, State};
 use std::alloc::Global;
@@ -36,72 +32,15 @@ pub extern "C" fn dmf_session_maximum_flow(
     ensures unchanged { session.new.timeline ≡ session.old.timeline }
 {
     let present = session.plan().present();
-    put_maximum_flow(alloc, present, value, flows, side, &mut Unwatched)
+    put_maximum_flow(alloc, present, value, flows, side)
 }
 
-/// Finds the same, unless the flag is raised before that.
-#[unsafe(no_mangle)]
-pub extern "C" fn dmf_session_maximum_flow_until(
-    alloc: Global,
-    session: &mut Handle,
-    value: &mut u64,
-    flows: &mut [u64],
-    side: &mut [u8],
-    stop: &mut Stop,
-) -> u32
-    ensures answer { OfPresent session.old.timeline (λ s. OrEnded (AnswersMaximumFlow s.network (length flows.old) (length side.old)) result) }
-    ensures value { OfPresent session.old.timeline (λ s. result ≡ DMF_OK → IsOptimalValue s.network value.new) }
-    ensures filled { OfPresent session.old.timeline (λ s. result ≡ DMF_OK → HasFlowsWanted s.network value.new flows.old flows.new) }
-    ensures marked { OfPresent session.old.timeline (λ s. result ≡ DMF_OK → MarksSideWanted s.network side.old side.new) }
-    ensures refused { result ≢ DMF_OK → (value.new ≡ value.old) × (flows.new ≡ flows.old) × (side.new ≡ side.old) }
-    ensures unchanged { session.new.timeline ≡ session.old.timeline }
-{
-    let mut watch = StopWatch::new(stop.flag());
-    let present = session.plan().present();
-    let code = put_maximum_flow(alloc, present, value, flows, side, &mut watch);
-    ended_code(code, watch.has_stopped)
-}
-
-/// Gives the session some maximum flow of its network, as a change.
-#[unsafe(no_mangle)]
-pub extern "C" fn dmf_session_solve_any(alloc: Global, session: &mut Handle) -> u32
-    ensures answer { result ≡ DMF_OK → AppendsMaximumFlow session.old.timeline session.new.timeline }
-    ensures among { IsOneOf result (DMF_OK ∷ DMF_NO_MEMORY ∷ []) }
-    ensures refused { result ≢ DMF_OK → session.new.timeline ≡ session.old.timeline }
-    ensures optimal { result ≡ DMF_OK → HasOptimalPresent session.new.timeline }
-{
-    match session.plan().solve_any(alloc, &mut Unwatched) {
-        Ok(()) => 0,
-        Err(_) => 1,
-    }
-}
-
-/// Gives it one, unless the flag is raised before that.
-#[unsafe(no_mangle)]
-pub extern "C" fn dmf_session_solve_any_until(
-    alloc: Global,
-    session: &mut Handle,
-    stop: &mut Stop,
-) -> u32
-    ensures answer { result ≡ DMF_OK → AppendsMaximumFlow session.old.timeline session.new.timeline }
-    ensures among { IsOneOf result (DMF_OK ∷ DMF_NO_MEMORY ∷ DMF_STOPPED ∷ []) }
-    ensures refused { result ≢ DMF_OK → session.new.timeline ≡ session.old.timeline }
-    ensures optimal { result ≡ DMF_OK → HasOptimalPresent session.new.timeline }
-{
-    let mut watch = StopWatch::new(stop.flag());
-    match session.plan().solve_any(alloc, &mut watch) {
-        Ok(()) => 0,
-        Err(_) => ended_code(1, watch.has_stopped),
-    }
-}
-
-fn put_maximum_flow<W: Watch>(
+fn put_maximum_flow(
     alloc: Global,
     state: &State,
     value: &mut u64,
     flows: &mut [u64],
     side: &mut [u8],
-    watch: &mut W,
 ) -> u32
     ensures answer { AnswersMaximumFlow state.now.network (length flows.old) (length side.old) result }
     ensures value { result ≡ DMF_OK → IsOptimalValue state.now.network value.new }
@@ -114,7 +53,7 @@ fn put_maximum_flow<W: Watch>(
     {
         return 10;
     }
-    let Ok(solved) = solve_copy(alloc, state, side.len() > 0, flows.len() > 0, watch) else {
+    let Ok(solved) = solve_copy(alloc, state, side.len() > 0) else {
         return 1;
     };
     greatest_is_optimal();
@@ -125,19 +64,13 @@ fn put_maximum_flow<W: Watch>(
 }
 
 /// A state of the same network whose flow is greatest, and the smallest side if this is wanted.
-pub fn solve_copy<W: Watch>(
-    alloc: Global,
-    state: &State,
-    want_side: bool,
-    want_flow: bool,
-    watch: &mut W,
-) -> Result<Solved, NoMemory>
+fn solve_copy(alloc: Global, state: &State, want_side: bool) -> Result<Solved, NoMemory>
     ensures network { IfOk result (λ solved. solved.state.network ≡ state.now.network) }
     ensures greatest { IfOk result (λ solved. IsGreatest solved.state.network solved.state.flows) }
     ensures side { IfOk result (λ solved. IsSideWanted want_side state.now.network solved.side) }
 {
     let copy = state.copy(alloc)?;
-    solve_any(alloc, copy, want_side, want_flow, watch)
+    solve_any(alloc, copy, want_side, &mut Unwatched)
 }
 
 /// Writes the flows of the state, if the array has a place at all.

@@ -1,14 +1,11 @@
-ghost use Rattle.std.specs.Prelude.{◌≡◌, ◌↔◌, false, None, IfOk, IfSome, OnErr, OnOk};
+ghost use Rattle.std.specs.Prelude.{◌≡◌, ◌↔◌, false, None, IfOk, IfSome, OnOk};
 ghost use Rattle.dmf_history.specs.Timeline.{IsTimeline, IsPresent, LeadsBack, future_of};
 ghost use Rattle.dmf_session.specs.declared.command.Command.TheVariants.{Solve};
 ghost use Rattle.dmf_session.specs.Optimal.{HasOptimalPresent};
 ghost use Rattle.dmf_session.specs.Step.{Answers};
-ghost use Rattle.dmf_c.specs.MaximumFlow.{AppendsMaximumFlow};
 
 use crate::flag::StopWatch;
-use crate::maximum_flow::solve_copy;
 use dmf_session::{Command, DeltaHistory, History, Refusal, Reply, Session};
-use dmf_solver::{Watch, greatest_is_optimal};
 use dmf_state::{Edit, NoMemory, State};
 use std::alloc::Global;
 use std::marker::Model;
@@ -53,29 +50,17 @@ impl Plan {
         self.session.step(alloc, command, false)
     }
 
-    /// Carries out a command, as [`Session::step_watched`] does: the watch may end it.
-    pub fn step_until(
+    /// Solves, as [`Session::step_watched`] does: the watch may end the solve.
+    pub fn solve_until(
         &mut self,
         alloc: Global,
-        command: Command,
         watch: &mut StopWatch<'_>,
     ) -> Result<Reply, Refusal>
-        ensures answer { Answers false self.old command result self.new }
-        ensures optimal { command ≡ Solve → OnOk result (HasOptimalPresent self.new) }
-    {
-        self.session.step_watched(alloc, command, false, watch)
-    }
-
-    /// Takes some maximum flow of the present network, as a change. The watch may end the call, which is then refused.
-    pub fn solve_any<W: Watch>(&mut self, alloc: Global, watch: &mut W) -> Result<(), NoMemory>
-        ensures ok { OnOk result (AppendsMaximumFlow self.old self.new) }
+        ensures answer { Answers false self.old Solve result self.new }
         ensures optimal { OnOk result (HasOptimalPresent self.new) }
-        ensures err { OnErr result (self.new ≡ self.old) }
     {
-        greatest_is_optimal();
-        let solved = solve_copy(alloc, self.session.present(), false, true, watch)?;
-        self.session.take_flow(alloc, &solved.state)?;
-        Ok(())
+        self.session
+            .step_watched(alloc, Command::Solve, false, watch)
     }
 
     /// The present state.

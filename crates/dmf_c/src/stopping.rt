@@ -4,9 +4,7 @@ ghost use Rattle.std.specs.Borrow.{sem};
 ghost use Rattle.std.specs.Ptr.{if_non_null};
 ghost use Rattle.dmf_session.specs.Optimal.{HasOptimalPresent};
 ghost use Rattle.dmf_c.specs.Codes.{AnswersUntil, Ends, until_code};
-ghost use Rattle.dmf_session.specs.declared.command.Command.TheVariants.{Cap, Close, Shut, Solve};
-ghost use Rattle.dmf_c.specs.Status.{IsOneOf, DMF_OK, DMF_NO_MEMORY, DMF_NO_SUCH_NODE, DMF_NO_SUCH_ARC, DMF_CLOSED, DMF_SUM_TOO_LARGE};
-ghost use Rattle.dmf_c.specs.Status.{DMF_STOPPED};
+ghost use Rattle.dmf_c.specs.Status.{IsOneOf, DMF_OK, DMF_NO_MEMORY, DMF_STOPPED};
 ghost use Rattle.dmf_c.specs.Stop.{owns_stop};
 ghost use Rattle.dmf_c.specs.declared.stop.Stop.{Stop as Owned};
 
@@ -14,7 +12,7 @@ use crate::code::answer_code;
 use crate::flag::{Flag, StopWatch};
 use crate::handle::Handle;
 use crate::stop::{Stop, StopSlot};
-use dmf_session::{Command, Refusal, Reply};
+use dmf_session::{Refusal, Reply};
 use std::alloc::{AllocError, Global};
 
 /// The answer of a call that a flag has ended.
@@ -83,7 +81,7 @@ pub extern "C" fn dmf_session_solve_until(
     session: &mut Handle,
     stop: &mut Stop,
 ) -> u32
-    ensures answer { AnswersUntil session.old.timeline Solve result session.new.timeline }
+    ensures answer { AnswersUntil session.old.timeline result session.new.timeline }
     ensures among { IsOneOf result (DMF_OK ∷ DMF_NO_MEMORY ∷ DMF_STOPPED ∷ []) }
     ensures refused { result ≢ DMF_OK → session.new.timeline ≡ session.old.timeline }
     ensures optimal { result ≡ DMF_OK → HasOptimalPresent session.new.timeline }
@@ -93,66 +91,11 @@ pub extern "C" fn dmf_session_solve_until(
         return STOPPED;
     }
     let mut watch = StopWatch::new(flag);
-    let answer = session.plan().step_until(alloc, Command::Solve, &mut watch);
+    let answer = session.plan().solve_until(alloc, &mut watch);
     until_code(&answer, watch.has_stopped)
 }
 
-/// Gives an arc another capacity, unless the flag is raised while flow is taken off.
-#[unsafe(no_mangle)]
-pub extern "C" fn dmf_session_cap_until(
-    alloc: Global,
-    session: &mut Handle,
-    arc: u64,
-    capacity: u64,
-    stop: &mut Stop,
-) -> u32
-    ensures answer { AnswersUntil session.old.timeline (Cap arc capacity) result session.new.timeline }
-    ensures among { IsOneOf result (DMF_OK ∷ DMF_NO_MEMORY ∷ DMF_NO_SUCH_ARC ∷ DMF_CLOSED ∷ DMF_SUM_TOO_LARGE ∷ DMF_STOPPED ∷ []) }
-    ensures refused { result ≢ DMF_OK → session.new.timeline ≡ session.old.timeline }
-{
-    let mut watch = StopWatch::new(stop.flag());
-    let command = Command::Cap { arc, cap: capacity };
-    let answer = session.plan().step_until(alloc, command, &mut watch);
-    until_code(&answer, watch.has_stopped)
-}
-
-/// Closes an arc, unless the flag is raised while flow is taken off.
-#[unsafe(no_mangle)]
-pub extern "C" fn dmf_session_close_until(
-    alloc: Global,
-    session: &mut Handle,
-    arc: u64,
-    stop: &mut Stop,
-) -> u32
-    ensures answer { AnswersUntil session.old.timeline (Close arc) result session.new.timeline }
-    ensures among { IsOneOf result (DMF_OK ∷ DMF_NO_MEMORY ∷ DMF_NO_SUCH_ARC ∷ DMF_CLOSED ∷ DMF_STOPPED ∷ []) }
-    ensures refused { result ≢ DMF_OK → session.new.timeline ≡ session.old.timeline }
-{
-    let mut watch = StopWatch::new(stop.flag());
-    let command = Command::Close { arc };
-    let answer = session.plan().step_until(alloc, command, &mut watch);
-    until_code(&answer, watch.has_stopped)
-}
-
-/// Closes every open arc at a node, unless the flag is raised while flow is taken off.
-#[unsafe(no_mangle)]
-pub extern "C" fn dmf_session_shut_until(
-    alloc: Global,
-    session: &mut Handle,
-    node: u64,
-    stop: &mut Stop,
-) -> u32
-    ensures answer { AnswersUntil session.old.timeline (Shut node) result session.new.timeline }
-    ensures among { IsOneOf result (DMF_OK ∷ DMF_NO_MEMORY ∷ DMF_NO_SUCH_NODE ∷ DMF_STOPPED ∷ []) }
-    ensures refused { result ≢ DMF_OK → session.new.timeline ≡ session.old.timeline }
-{
-    let mut watch = StopWatch::new(stop.flag());
-    let command = Command::Shut { node };
-    let answer = session.plan().step_until(alloc, command, &mut watch);
-    until_code(&answer, watch.has_stopped)
-}
-
-/// The number of a command's answer. If the watch has ended the command, that is why it was refused.
+/// The number of a solve's answer. If the watch has ended the solve, that is why it was refused.
 fn until_code(answer: &Result<Reply, Refusal>, has_stopped: bool) -> u32
     ensures { result ≡ until_code answer.now has_stopped }
 {

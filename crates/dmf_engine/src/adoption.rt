@@ -3,7 +3,6 @@ use crate::links::{PackedLinks, head_of};
 use crate::list::within;
 use crate::members::{FREE, ORPHAN, ROOT};
 use crate::trees::Trees;
-use crate::watch::{EngineWatch, Poll};
 
 /// A neighbour that may become a parent.
 #[derive(Clone, Copy)]
@@ -16,10 +15,10 @@ struct Candidate {
 
 impl Trees {
     /// Finds another parent for each orphan, or takes it out of its tree, as long as looks are left.
-    pub fn adopt_all<V: EngineWatch>(&mut self, links: &PackedLinks, poll: &mut Poll<'_, V>) {
-        for _ in 0..self.budget.left {
+    pub fn adopt_all(&mut self, links: &PackedLinks) {
+        for _ in 0..self.left {
             let node = self.orphans.take();
-            if node == 0 || self.budget.is_spent(poll) {
+            if node == 0 || self.left == 0 {
                 break;
             }
             let nearest = self.nearest_parent(links, node);
@@ -41,10 +40,10 @@ impl Trees {
         let is_behind = self.members.is_behind(node);
         let mut place = links.start(node);
         for link in within(&links.all, place, links.end(node)) {
-            if self.budget.left <= 0 {
+            if self.left == 0 {
                 break;
             }
-            self.budget.spend(1);
+            self.spend(1);
             // The tree grows from the neighbour to the node, so against the link.
             if self.can_grow(!is_behind, link.word) {
                 let head = head_of(link.word);
@@ -79,7 +78,7 @@ impl Trees {
                 }
             }
         }
-        self.budget.spend(end.wrapping_sub(start));
+        self.spend(end.wrapping_sub(start));
         self.members.put(node, FREE, 0, 0);
     }
 
@@ -87,7 +86,7 @@ impl Trees {
     fn distance(&mut self, links: &PackedLinks, node: u32) -> u32 {
         let mut count = 0u32;
         let mut at = node;
-        for _ in 0..self.budget.left {
+        for _ in 0..self.left {
             let member = self.members.at(at);
             if member.time == self.time {
                 count = count.wrapping_add(member.distance);
@@ -102,7 +101,7 @@ impl Trees {
                 return FREE;
             }
             at = head_of(links.at(member.parent).word);
-            self.budget.spend(1);
+            self.spend(1);
         }
         self.store_distances(links, node, count);
         count

@@ -2,7 +2,6 @@
 use crate::engine::Engine;
 use crate::links::head_of;
 use crate::list::{mask_of, masked, read, within, write};
-use crate::watch::{EngineWatch, Poll};
 
 /// A node that is discharged.
 #[derive(Drop)]
@@ -29,16 +28,16 @@ struct Least {
 impl Engine {
     /// Pushes the excess of a node to nodes with a label less by one, and relabels it after each round of its links, until no excess is left
     /// or the node is cut off from the goal.
-    pub fn discharge<V: EngineWatch>(&mut self, node: u32, poll: &mut Poll<'_, V>) {
+    pub fn discharge(&mut self, node: u32) {
         let mut at = Discharge {
             node,
             excess: self.excess_at(node),
             label: self.label(node),
             current: read(&self.currents, node, 0),
         };
-        for _ in 0..self.budget.left {
+        for _ in 0..self.budget {
             let least = self.go_round(&mut at);
-            if at.excess == 0 || self.budget.is_spent(poll) || !self.relabel(&mut at, least) {
+            if at.excess == 0 || self.budget == 0 || !self.relabel(&mut at, least) {
                 break;
             }
         }
@@ -75,8 +74,7 @@ impl Engine {
             }
             at.current = at.current.wrapping_add(1);
         }
-        self.budget
-            .spend(at.current.wrapping_sub(start).wrapping_add(1));
+        self.spend(at.current.wrapping_sub(start).wrapping_add(1));
     }
 
     /// The first place from the current arc on whose link is admissible, or the end. Of the links before it, notes the least label to which

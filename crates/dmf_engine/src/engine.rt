@@ -3,8 +3,6 @@ use crate::buckets::Buckets;
 use crate::direction::PushDirection;
 use crate::links::{PackedLinks, head_of};
 use crate::list::{Row, power_from, read, write};
-use crate::returning::Returning;
-use crate::watch::{Budget, EngineWatch, Poll};
 use dmf_state::NoMemory;
 use std::alloc::Global;
 
@@ -33,17 +31,16 @@ pub struct Engine {
     /// The work of relabels since all labels were exact.
     pub since: u64,
     /// How many looks and pushes are left.
-    pub budget: Budget,
+    pub budget: u64,
 }
 
 impl Engine {
-    /// An engine for these links that has pushed nothing, and may take so many looks and pushes. Takes memory for some numbers a node.
+    /// An engine for these links that has pushed nothing. Takes memory for some numbers a node.
     pub fn new(
         alloc: Global,
         links: PackedLinks,
         nodes: u32,
         direction: PushDirection,
-        budget: Budget,
     ) -> Result<Engine, NoMemory> {
         let size = nodes as usize + 2;
         Ok(Engine {
@@ -57,30 +54,26 @@ impl Engine {
             queue: Row::new(alloc, size)?,
             chance: 12_345,
             since: 0,
-            budget,
+            budget: 0,
         })
     }
 
-    /// What the second phase needs: the links, with what has been pushed over them, and the excess of each node.
-    pub fn into_returning(self) -> Returning {
+    /// The links, with what has been pushed over them.
+    pub fn into_links(self) -> PackedLinks {
         let Engine {
             links,
             nodes: _,
-            direction,
+            direction: _,
             labels: _,
             currents: _,
-            excess,
+            excess: _,
             buckets: _,
             queue: _,
             chance: _,
             since: _,
             budget: _,
         } = self;
-        Returning {
-            links,
-            direction,
-            excess,
-        }
+        links
     }
 
     /// The label of a node.
@@ -95,36 +88,44 @@ impl Engine {
         read(&self.excess, node, 0)
     }
 
+    /// Takes from the budget.
+    #[inline(always)]
+    pub fn spend(&mut self, work: u32) {
+        self.budget = self.budget.saturating_sub(u64::from(work));
+    }
+
     /// Pushes as much to the goal as can come there, and leaves at nodes on the way what cannot. If the budget ends first, more could come.
-    pub fn push_to_goal<V: EngineWatch>(&mut self, most: u64, poll: &mut Poll<'_, V>) {
-        self.label_all(poll);
+    pub fn push_to_goal(&mut self, most: u64) {
+        self.label_all();
         self.saturate();
-        for _ in 0..self.budget.left {
+        for _ in 0..self.budget {
             let top = self.buckets.top;
-            if self.budget.is_spent(poll) || top == 0 {
+            if self.budget == 0 || top == 0 {
                 return;
             }
-            self.budget.spend(1);
+            self.spend(1);
             let node = self.buckets.take_active(top);
             if node == 0 {
                 self.buckets.top = top.wrapping_sub(1);
             } else if self.label(node) == top {
-                self.discharge(node, poll);
+                self.discharge(node);
                 if self.since > most {
-                    self.label_all(poll);
+                    self.label_all();
                 }
             }
         }
     }
 
-    /// Marks the nodes on the source's side of a cut. Once no more can come to the goal, this is a minimum cut: no excess leaves the nodes
-    /// above a label that none has, and giving back goes among these alone.
-    pub fn mark_cut(&self, marks: &mut [bool]) {
+    /// For each node whether it is on the source's side of a cut. Once no more can come to the goal, this is a minimum cut: no excess leaves the
+    /// nodes above a label that none has, and giving back goes among these alone. Takes memory for a mark a node.
+    pub fn cut(&self, alloc: Global) -> Result<Vec<bool>, NoMemory> {
         let gap = self.buckets.gap();
+        let mut marks = vec![in alloc; false; self.nodes as usize + 1]?;
         for node in 1..self.nodes.wrapping_add(1) {
             let is_near_base = self.label(node) >= gap;
-            write(marks, node, is_near_base != self.direction.is_reversed);
+            write(&mut marks, node, is_near_base != self.direction.is_reversed);
         }
+        Ok(marks)
     }
 
     /// Pushes over each link of the base as much as it takes.

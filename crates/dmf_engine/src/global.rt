@@ -2,11 +2,10 @@
 use crate::engine::Engine;
 use crate::links::head_of;
 use crate::list::{fill, read, within, write};
-use crate::watch::{EngineWatch, Poll};
 
 impl Engine {
     /// Labels each node with its distance to the goal, by a breadth-first search.
-    pub fn label_all<V: EngineWatch>(&mut self, poll: &mut Poll<'_, V>) {
+    pub fn label_all(&mut self) {
         let base = self.direction.base;
         let goal = self.direction.goal;
         self.since = 0;
@@ -18,7 +17,7 @@ impl Engine {
         self.queue.push(goal);
         for index in 0..self.nodes {
             let node = self.queue.at(index);
-            if node == 0 || !poll.goes_on_at(u64::from(index)) {
+            if node == 0 {
                 break;
             }
             self.label_neighbours(node);
@@ -33,7 +32,7 @@ impl Engine {
         let label = self.label(node).wrapping_add(1);
         let none = self.nodes;
         let direction = self.direction;
-        self.budget.spend(end.wrapping_sub(start));
+        self.spend(end.wrapping_sub(start));
         let mut place = start;
         for link in within(&self.links.all, start, end) {
             let tail = head_of(link.word);

@@ -2,7 +2,6 @@
 use crate::direction::PushDirection;
 use crate::links::{PackedLinks, head_of};
 use crate::list::{Row, fill, read, write};
-use crate::watch::{EngineWatch, Poll};
 use dmf_state::NoMemory;
 use std::alloc::Global;
 
@@ -51,12 +50,11 @@ struct Levels {
 }
 
 /// Finds the cuts between the levels from either end, in what is left of the links. Takes memory for two numbers a node.
-pub fn find_level_cuts<V: EngineWatch>(
+pub fn find_level_cuts(
     alloc: Global,
     links: &PackedLinks,
     nodes: u32,
     forward: PushDirection,
-    poll: &mut Poll<'_, V>,
 ) -> Result<LevelCuts, NoMemory> {
     let size = nodes as usize + 2;
     let mut levels = Levels {
@@ -68,21 +66,18 @@ pub fn find_level_cuts<V: EngineWatch>(
         near_source: u64::MAX,
         near_sink: u64::MAX,
     };
-    let backward = PushDirection::backward(forward.base, forward.goal);
-    levels.find_cuts(links, forward, &mut cuts, poll);
-    levels.find_cuts(links, backward, &mut cuts, poll);
+    levels.find_cuts(links, forward, &mut cuts);
+    levels.find_cuts(
+        links,
+        PushDirection::backward(forward.base, forward.goal),
+        &mut cuts,
+    );
     Ok(cuts)
 }
 
 impl Levels {
     /// Counts the cuts between the levels from the base on, up to the level of the goal.
-    fn find_cuts<V: EngineWatch>(
-        &mut self,
-        links: &PackedLinks,
-        direction: PushDirection,
-        cuts: &mut LevelCuts,
-        poll: &mut Poll<'_, V>,
-    ) {
+    fn find_cuts(&mut self, links: &PackedLinks, direction: PushDirection, cuts: &mut LevelCuts) {
         fill(&mut self.labels, 0);
         self.queue.truncate(0);
         self.queue.push(direction.base);
@@ -90,9 +85,6 @@ impl Levels {
         let mut level = 1;
         let mut capacity = 0u64;
         for index in 0..self.nodes.wrapping_add(1) {
-            if !poll.goes_on_at(u64::from(index)) {
-                break;
-            }
             let node = self.queue.at(index);
             if self.label(node) != level {
                 let is_near_base = index <= self.nodes / 2;

@@ -13,18 +13,14 @@
 //!    global relabelling makes all labels exact (`global.rt`). The second phase gives back what could not come to the goal, over the links
 //!    that brought it (`returning.rt`).
 //!
-//! Where the flow is wanted, it is taken off all cycles at last (`cycles.rt`).
-//!
 //! Each loop goes over nodes or links, or takes from a budget that only falls. An index past the end of a list gives up quietly, and a
 //! sum wraps: neither happens where all ends of arcs are nodes and the capacities' sum fits 64 bits.
 #![tactic(auto)]
 
 pub use likely::{Likely, likely_greatest};
-pub use watch::EngineWatch;
 
 mod adoption;
 mod buckets;
-mod cycles;
 mod direction;
 mod discharge;
 mod engine;
@@ -37,4 +33,3 @@ mod members;
 mod phases;
 mod returning;
 mod trees;
-mod watch;

@@ -2,7 +2,6 @@
 use crate::direction::PushDirection;
 use crate::links::{PackedLinks, head_of};
 use crate::list::{Row, fill, mask_of, masked, power_from, read, within, write};
-use crate::watch::{EngineWatch, Poll};
 use dmf_state::NoMemory;
 use std::alloc::Global;
 
@@ -86,12 +85,8 @@ impl Phases {
         })
     }
 
-    /// Sends flow over shortest paths, phase after phase, while that pays and the watch goes on.
-    pub fn send_all<V: EngineWatch>(
-        &mut self,
-        links: &mut PackedLinks,
-        poll: &mut Poll<'_, V>,
-    ) -> PhasesEnd {
+    /// Sends flow over shortest paths, phase after phase, while that pays.
+    pub fn send_all(&mut self, links: &mut PackedLinks) -> PhasesEnd {
         let mut end = PhasesEnd {
             is_greatest: false,
             was_near: false,
@@ -102,15 +97,15 @@ impl Phases {
         let mut last = NOTHING;
         for phase in 0..LONGEST {
             let before = self.done;
-            let distance = self.label_all(links, poll);
-            end.is_greatest = distance == FAR && !poll.has_ended;
+            let distance = self.label_all(links);
+            end.is_greatest = distance == FAR;
             if phase == 0 {
                 end.was_near = distance <= NEAR;
             }
-            if distance > LONGEST || poll.has_ended {
+            if distance > LONGEST {
                 break;
             }
-            self.block(links, poll);
+            self.block(links);
             let work = self.done.since(before);
             if phase == 0 {
                 first = work;
@@ -126,23 +121,22 @@ impl Phases {
         end
     }
 
-    /// Marks the nodes from which no residual path leads to the sink.
-    pub fn mark_cut(&self, marks: &mut [bool]) {
+    /// For each node whether no residual path leads from it to the sink. Takes memory for a mark a node.
+    pub fn cut(&self, alloc: Global) -> Result<Vec<bool>, NoMemory> {
+        let mut marks = vec![in alloc; false; self.nodes as usize + 1]?;
         for node in 1..self.nodes.wrapping_add(1) {
-            write(marks, node, read(&self.labels, node, 0) == FAR);
+            write(&mut marks, node, read(&self.labels, node, 0) == FAR);
         }
+        Ok(marks)
     }
 
     /// Labels nodes with their distances to the sink, by a breadth-first search that ends at the source, and answers the source's.
-    fn label_all<V: EngineWatch>(&mut self, links: &PackedLinks, poll: &mut Poll<'_, V>) -> u32 {
+    fn label_all(&mut self, links: &PackedLinks) -> u32 {
         fill(&mut self.labels, FAR);
         write(&mut self.labels, self.forward.goal, 0);
         self.queue.truncate(0);
         self.queue.push(self.forward.goal);
         for index in 0..self.nodes {
-            if !poll.goes_on_at(u64::from(index)) {
-                break;
-            }
             let node = self.queue.at(index);
             if node == 0 || read(&self.labels, self.forward.base, 0) != FAR {
                 break;
@@ -169,13 +163,10 @@ impl Phases {
     }
 
     /// Sends flow until each path of the labels has a full link. Each turn finds a link of the walk, or passes one for good.
-    fn block<V: EngineWatch>(&mut self, links: &mut PackedLinks, poll: &mut Poll<'_, V>) {
+    fn block(&mut self, links: &mut PackedLinks) {
         self.walk.truncate(0);
         let mut node = self.forward.base;
-        for turn in 0..self.most_turns(links) {
-            if !poll.goes_on_at(turn) {
-                break;
-            }
+        for _ in 0..self.most_turns(links) {
             let place = self.next_link(links, node);
             if place < links.end(node) {
                 self.walk.push(place);

@@ -4,7 +4,6 @@ use crate::direction::PushDirection;
 use crate::links::{PackedLinks, head_of};
 use crate::list::{Ring, within, write};
 use crate::members::{FREE, Members, ORPHAN, ROOT};
-use crate::watch::{Budget, EngineWatch, Poll};
 use dmf_state::NoMemory;
 use std::alloc::Global;
 
@@ -20,7 +19,7 @@ pub struct Trees {
     /// How many times links of a node were looked at for growth.
     pub time: u32,
     /// How many looks and steps may still be taken.
-    pub budget: Budget,
+    pub left: u64,
     nodes: u32,
     /// Where the links of the current node are looked at next.
     place: u32,
@@ -35,7 +34,7 @@ impl Trees {
             members: Members::new(alloc, size)?,
             orphans: Ring::new(alloc, size)?,
             time: 0,
-            budget: Budget::new(0),
+            left: 0,
             nodes,
             place: 0,
         };
@@ -44,15 +43,9 @@ impl Trees {
         Ok(trees)
     }
 
-    /// Sends flow over the paths on which the trees meet. Returns `true` once no path is left, or `false` if it stopped after `most` looks or
-    /// the watch ended the engine.
-    pub fn send_all<V: EngineWatch>(
-        &mut self,
-        links: &mut PackedLinks,
-        most: u64,
-        poll: &mut Poll<'_, V>,
-    ) -> bool {
-        self.budget = Budget::new(most);
+    /// Sends flow over the paths on which the trees meet. Returns `true` once no path is left, or `false` if it stopped after `most` looks.
+    pub fn send_all(&mut self, links: &mut PackedLinks, most: u64) -> bool {
+        self.left = most;
         for _ in 0..most {
             let node = self.members.take_active();
             if node == 0 {
@@ -64,21 +57,29 @@ impl Trees {
             } else {
                 self.members.keep(node);
                 self.send(links, meeting);
-                self.adopt_all(links, poll);
+                self.adopt_all(links);
             }
-            if self.budget.is_spent(poll) {
+            if self.left == 0 {
                 break;
             }
         }
         false
     }
 
-    /// Marks the nodes of the source's tree.
-    pub fn mark_cut(&self, marks: &mut [bool]) {
+    /// For each node whether it is in the source's tree. Takes memory for a mark a node.
+    pub fn cut(&self, alloc: Global) -> Result<Vec<bool>, NoMemory> {
+        let mut marks = vec![in alloc; false; self.nodes as usize + 1]?;
         for node in 1..self.nodes.wrapping_add(1) {
             let is_ahead = self.members.at(node).parent != FREE && !self.members.is_behind(node);
-            write(marks, node, is_ahead);
+            write(&mut marks, node, is_ahead);
         }
+        Ok(marks)
+    }
+
+    /// Takes from what is left of the looks.
+    #[inline(always)]
+    pub fn spend(&mut self, looks: u32) {
+        self.left = self.left.saturating_sub(u64::from(looks));
     }
 
     /// Whether a tree can grow over a link with this word, away from its root.
@@ -127,7 +128,7 @@ impl Trees {
             place = place.wrapping_add(1);
         }
         self.place = place;
-        self.budget.spend(place.wrapping_sub(start).wrapping_add(1));
+        self.spend(place.wrapping_sub(start).wrapping_add(1));
         meeting
     }
 
@@ -182,7 +183,7 @@ impl Trees {
             if !self.forward.can_leave(links.at(place).word) {
                 self.lose_parent(at);
             }
-            self.budget.spend(1);
+            self.spend(1);
             at = head_of(links.at(parent).word);
         }
     }

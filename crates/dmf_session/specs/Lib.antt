@@ -1,5 +1,4 @@
 pub mod AppendedEdit
-pub mod Flow
 pub mod Kept
 pub mod Optimal
 pub mod RefusalText

@@ -4,7 +4,6 @@ ghost use Rattle.dmf_history.specs.declared.history.RedoFault.TheVariants as red
 ghost use Rattle.dmf_history.specs.Timeline.{IsTimeline, IsPresent, future_of, back, forward, FitsPresent, Appends, AddsArcs};
 ghost use Rattle.dmf_session.specs.Step.{Answers};
 ghost use Rattle.dmf_session.specs.AppendedEdit.{AnswersAppended};
-ghost use Rattle.dmf_session.specs.Flow.{AppendsFlow, HasPresentNetwork};
 ghost use Rattle.dmf_session.specs.Kept.{KeepsPresent, KeepsApplied};
 ghost use Rattle.dmf_session.specs.Optimal.{HasOptimalPresent};
 
@@ -13,7 +12,7 @@ use crate::kept::{kept_after, kept_before, kept_with};
 use dmf_history::{History, RedoFault};
 use dmf_solver::{
     NewCap, ResidualNetwork, Unwatched, Watch, greatest_is_optimal, plan_add, plan_cap_watched,
-    plan_close_watched, plan_flow, plan_shut_watched, smallest_side,
+    plan_close_watched, plan_shut_watched, smallest_side,
 };
 use dmf_state::{Edit, NoMemory, State};
 use std::alloc::Global;
@@ -122,22 +121,6 @@ impl<H: History> Session<H> {
         let answer = self.carry_out(alloc, command, want_cut, watch);
         self.drop_if_refused(&answer);
         answer
-    }
-
-    /// Takes the flow of another state of the present network, as a change: appends the present state with that flow. If it leads past
-    /// the bound, the history forgets its oldest state.
-    ///
-    /// Takes time for each arc, and memory for the arcs whose flow differs. If that is refused, nothing has changed.
-    pub fn take_flow(&mut self, alloc: Global, other: &State) -> Result<(), NoMemory>
-        requires { HasPresentNetwork other.now.network (H.timeline self.old) }
-        ensures ok { OnOk result (AppendsFlow other.now.flows (H.timeline self.old) (H.timeline self.new)) }
-        ensures err { OnErr result (H.timeline self.new ≡ H.timeline self.old) }
-    {
-        let kept = self.kept.take();
-        let edit = plan_flow(alloc, self.history.present(), other)?;
-        let kept = kept_with(alloc, kept, self.history.present(), &edit);
-        self.append(edit, kept)?;
-        Ok(())
     }
 
     // The calls below are not inlined: each would add its network to this frame.

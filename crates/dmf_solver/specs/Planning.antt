@@ -1,6 +1,6 @@
 -- The result of planning a change.
 -- Public: a public contract says no more than this.
-use Rattle.std.specs.Prelude.{ℕ, ◌≡◌, List, Bool, true, false, Option, Some, None, Result, Err, IsOkUnless, MatchOption}
+use Rattle.std.specs.Prelude.{ℕ, ◌≡◌, Bool, true, false, Option, Some, None, Result, Err, IsOkUnless, MatchOption}
 use Rattle.dmf_state.specs.declared.edit.Edit.{Edit}
 use Rattle.dmf_solver.specs.declared.fault.PlanFault.{PlanFault}
 use Rattle.dmf_solver.specs.declared.fault.PlanFault.TheVariants.{NoMemory}
@@ -11,7 +11,7 @@ use Rattle.dmf_state.specs.Edit.{applied, Fits, ListsDifferences}
 use Rattle.dmf_state.specs.Flow.{flow_value}
 use Rattle.dmf_solver.specs.Greatest.{IsGreatest}
 use Rattle.dmf_state.specs.Network.{Network}
-use Rattle.dmf_state.specs.NetworkState.{NetworkState, with_flows}
+use Rattle.dmf_state.specs.NetworkState.{NetworkState}
 use Rattle.dmf_state.specs.Side.{CutSide, IsSmallestSide}
 
 -- If the change is refused, the result is its fault. If not, only want of memory refuses the plan.
@@ -35,12 +35,6 @@ pub record PlansSolve (s : NetworkState) (edit : Edit) : Type 0 where
   pub plan : Plans s Solve edit
   pub greatest : IsGreatest s.network (applied edit s).flows
   pub cut : HasCutOf s.network (flow_value s.network (applied edit s).flows)
-
--- The edit gives the state these flows: it fits the state, makes what they make of it, and lists just the arcs whose flow differs then.
-pub record PlansFlow (s : NetworkState) (flows : List ℕ) (edit : Edit) : Type 0 where
-  pub fits : Fits edit s
-  pub becomes : applied edit s ≡ with_flows s flows
-  pub moves : ListsDifferences edit s
 
 -- The smallest side of the network if it is wanted, else `None`.
 abbrev pub IsSideWanted : Bool → Network → Option CutSide → Type 0

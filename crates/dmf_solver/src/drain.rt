@@ -1,4 +1,4 @@
-ghost use Rattle.std.specs.Prelude.{◌≡◌, ◌≢◌, ◌+◌, ◌≤◌, ℕ, true, length, List, [], ◌∷◌, IfOk, IsOk, OnOk};
+ghost use Rattle.std.specs.Prelude.{◌≡◌, ◌≢◌, ◌+◌, ◌≤◌, ℕ, true, length, List, [], ◌∷◌, IfOk, IsOk};
 ghost use Rattle.dmf_state.specs.Network.{arc_number, has_arc};
 ghost use Rattle.dmf_state.specs.Flow.{flow_on};
 ghost use Rattle.dmf_state.specs.NetworkState.{IsState};
@@ -13,9 +13,9 @@ ghost use Rattle.dmf_solver.specs.Pairs.{Along, IsCarryingSearch, drained_flows,
 use crate::drained_flows::DrainedFlows;
 use crate::moves::{list_moves, most_touched};
 use crate::residual_network::{ResidualNetwork, new_network};
-use crate::watch::{Stopped, Turn, Watch};
+use crate::watch::{Turn, Watch};
 use dmf_path::{Search, Touched};
-use dmf_state::{Move, NoMemory, Shutting, State};
+use dmf_state::{Move, Shutting, State};
 use std::alloc::{AllocError, Global};
 
 /// The result of draining.
@@ -36,7 +36,7 @@ pub fn drain<W: Watch>(
     turn: Turn,
     kept: &mut Option<ResidualNetwork>,
     watch: &mut W,
-) -> Result<Drained, NoMemory>
+) -> Result<Drained, AllocError>
     requires is_there { has_arc state.now.network turn.arc ≡ true }
     requires kept { KeepsNetwork state.now kept.old }
     ensures at_once { flow_on state.now.flows turn.arc ≤ turn.limit → IsOk result }
@@ -105,7 +105,7 @@ fn drain_by<W: Watch>(
     turn: Turn,
     mut carrying: Search,
     watch: &mut W,
-) -> Result<Drained, NoMemory>
+) -> Result<Drained, AllocError>
     requires is_there { has_arc state.now.network turn.arc ≡ true }
     requires no_loop { (arc_number state.now.network turn.arc).tail ≢ (arc_number state.now.network turn.arc).head }
     requires carrying { IsCarryingOf state.now carrying }
@@ -113,9 +113,8 @@ fn drain_by<W: Watch>(
     ensures carrying { IfOk result (CarriesMoved state.now) }
 {
     let mut touched = carrying.none_touched(alloc, most_touched(state))?;
-    drain_along(state, turn, &mut carrying, &mut touched, watch)?;
-    let drained = list_drained(alloc, state, &[], carrying, touched)?;
-    Ok(drained)
+    drain_along(state, turn, &mut carrying, &mut touched, watch);
+    list_drained(alloc, state, &[], carrying, touched)
 }
 
 /// What draining comes to: the moves, listed from the touched pairs, and the carrying search. A self loop has no pair: it is drained if
@@ -149,27 +148,27 @@ pub fn list_drained(
 }
 
 /// Drains the arc whose turn it is, which is no self loop, to the limit: takes flow off along the paths of carrying steps that the
-/// search finds, and reports each to the watch, which may end this. If no more than the limit flows on the arc, does nothing. The pairs
-/// that it changes count as touched.
+/// search finds, and reports each to the watch. If no more than the limit flows on the arc, does nothing. The pairs that it changes
+/// count as touched.
 pub fn drain_along<W: Watch>(
     state: &State,
     turn: Turn,
     search: &mut Search,
     touched: &mut Touched,
     watch: &mut W,
-) -> Result<(), Stopped>
+)
     requires is_there { has_arc state.now.network turn.arc ≡ true }
     requires no_loop { (arc_number state.now.network turn.arc).tail ≢ (arc_number state.now.network turn.arc).head }
     requires carrying { (unpaired : List ℕ) × IsCarryingSearch state.now unpaired search.old }
-    ensures touched { OnOk result (Touches touched.old touched.new search.old.pairs search.new.pairs) }
-    ensures drains { OnOk result ((unpaired : List ℕ) → IsCarryingSearch state.now unpaired search.old →
+    ensures touched { Touches touched.old touched.new search.old.pairs search.new.pairs }
+    ensures drains { (unpaired : List ℕ) → IsCarryingSearch state.now unpaired search.old →
         IsCarryingSearch state.now unpaired search.new
-        × Drains state.now.network turn.arc turn.limit (flows_read Along unpaired search.old.pairs) (flows_read Along unpaired search.new.pairs)) }
+        × Drains state.now.network turn.arc turn.limit (flows_read Along unpaired search.old.pairs) (flows_read Along unpaired search.new.pairs) }
 {
     let i = turn.arc as usize - 1;
     let mut left = search.along(i).unwrap_or(0).saturating_sub(turn.limit);
     if left == 0 {
-        return Ok(());
+        return;
     }
     let arc = state.arc(turn.arc);
     search.aim(arc.head, arc.tail);
@@ -184,10 +183,6 @@ pub fn drain_along<W: Watch>(
             }
             None => unreachable!(),
         }
-        if !watch.goes_on() {
-            return Err(Stopped);
-        }
     }
     search.settle();
-    Ok(())
 }

@@ -60,27 +60,12 @@ impl From<AllocError> for PlanFault {
     }
 }
 
-impl From<NoMemory> for PlanFault {
-    ghost from_gives = { λ _ e. e ≡ plan.NoMemory };
-
-    fn from(_error: NoMemory) -> PlanFault {
-        PlanFault::NoMemory
-    }
-}
-
 /// A plan whose watch ends it is refused as if memory were: nothing has changed, and the watch knows why.
 impl From<Stopped> for PlanFault {
     ghost from_gives = { λ _ e. e ≡ plan.NoMemory };
 
     fn from(_stopped: Stopped) -> PlanFault {
         PlanFault::NoMemory
-    }
-}
-
-/// So is a drain.
-impl From<Stopped> for NoMemory {
-    fn from(_stopped: Stopped) -> NoMemory {
-        NoMemory
     }
 }
 

@@ -8,8 +8,8 @@ pub use laws::{
     max_flow_min_cut, network_has_one_smallest_side, network_has_smallest_side, solved_is_greatest,
 };
 pub use plan::{
-    NewCap, plan_add, plan_cap, plan_cap_watched, plan_close, plan_close_watched, plan_flow,
-    plan_shut, plan_shut_watched, plan_solve, plan_solve_watched,
+    NewCap, plan_add, plan_cap, plan_cap_watched, plan_close, plan_close_watched, plan_shut,
+    plan_shut_watched, plan_solve, plan_solve_watched,
 };
 pub use residual_network::ResidualNetwork;
 pub use side::{side_after, smallest_side};

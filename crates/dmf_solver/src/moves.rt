@@ -22,14 +22,6 @@ pub trait Flows {
         ensures { result ≡ slice_index (flows self.now) k };
 }
 
-impl Flows for &[u64] {
-    ghost flows = { λ flows. flows.now };
-
-    fn flow(&self, k: usize) -> u64 {
-        self[k]
-    }
-}
-
 /// The moves of all arcs whose flow differs from the state's flow, in the order of their numbers.
 pub fn list_all_moves<F: Flows>(
     alloc: Global,

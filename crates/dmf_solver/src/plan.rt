@@ -7,11 +7,10 @@ ghost use Rattle.dmf_state.specs.Flow.{flow_on, flow_on_all, flow_value};
 ghost use Rattle.dmf_state.specs.NetworkState.{with_flows};
 ghost use Rattle.dmf_solver.specs.CarryingNetwork.{MayCarry};
 ghost use Rattle.dmf_solver.specs.KeptNetwork.{KeepsNetwork};
-ghost use Rattle.dmf_solver.specs.Planning.{EditTakesOff, IsRefusedFor, IsSideWanted, Plans, PlansFlow, PlansSolve};
+ghost use Rattle.dmf_solver.specs.Planning.{EditTakesOff, IsRefusedFor, IsSideWanted, Plans, PlansSolve};
 
 use crate::drain::drain;
 use crate::fault::PlanFault;
-use crate::moves::list_moves;
 use crate::reached_flows::into_moves;
 use crate::residual::residual_search;
 use crate::residual_network::ResidualNetwork;
@@ -19,8 +18,8 @@ use crate::shut::{drain_all, open_arcs_at};
 use crate::side::wanted_side;
 use crate::solve::solve;
 use crate::watch::{Turn, Unwatched, Watch};
-use dmf_path::{Indices, Search, Touched};
-use dmf_state::{Direction, Edit, NoMemory, Side, State};
+use dmf_path::{Search, Touched};
+use dmf_state::{Direction, Edit, Side, State};
 use std::alloc::Global;
 
 /// A new capacity for an arc.
@@ -242,19 +241,6 @@ pub fn plan_solve_watched<W: Watch>(
     let side = wanted_side(alloc, state, &solved.search, solved.value, want_side)?;
     let moves = into_moves(alloc, state, solved)?;
     Ok((Edit::Solve { moves }, side))
-}
-
-/// Plans that the state gets the flow of another state of the same network. The state does not change.
-///
-/// Takes time for each arc, and memory for the moves. If that is refused, fails with [`NoMemory`].
-pub fn plan_flow(alloc: Global, state: &State, other: &State) -> Result<Edit, NoMemory>
-    requires { other.now.network ≡ state.now.network }
-    ensures { IfOk result (PlansFlow state.now other.now.flows) }
-{
-    let after = other.flows();
-    let indices = Indices::Within(0..state.flows().len());
-    let moves = list_moves(alloc, state, &after, indices)?;
-    Ok(Edit::Solve { moves })
 }
 
 /// The number and the capacity of arc number `j`, or why the arc cannot be changed.

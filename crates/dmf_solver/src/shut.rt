@@ -1,5 +1,5 @@
 //! Closing every open arc at a node.
-ghost use Rattle.std.specs.Prelude.{◌≡◌, ◌≤◌, ℕ, true, List, [], IfOk, OnOk, MatchOption};
+ghost use Rattle.std.specs.Prelude.{◌≡◌, ◌≤◌, ℕ, true, List, [], IfOk, MatchOption};
 ghost use Rattle.dmf_node.specs.Node.{IsNode};
 ghost use Rattle.dmf_state.specs.Arc.{open_arcs_at};
 ghost use Rattle.dmf_solver.specs.CarryingNetwork.{IsCarryingOf};
@@ -16,9 +16,9 @@ ghost use Rattle.dmf_solver.specs.Pairs.{IsCarryingSearch};
 use crate::drain::{Drained, drain_along, list_drained, take_carrying};
 use crate::moves::most_touched;
 use crate::residual_network::ResidualNetwork;
-use crate::watch::{Stopped, Turn, Watch};
+use crate::watch::{Turn, Watch};
 use dmf_path::{Indices, Search, Touched};
-use dmf_state::{NoMemory, Shutting, State};
+use dmf_state::{Shutting, State};
 use std::alloc::{AllocError, Global};
 
 /// If no more arcs than these are drained, making a second set of labels takes longer than it saves.
@@ -83,7 +83,7 @@ pub fn drain_all<W: Watch>(
     arcs: &[Shutting],
     kept: &mut Option<ResidualNetwork>,
     watch: &mut W,
-) -> Result<Drained, NoMemory>
+) -> Result<Drained, AllocError>
     requires state { IsState state.now }
     requires arcs { AreOpenWith 0 arcs.now state.now.network }
     requires kept { KeepsNetwork state.now kept.old }
@@ -120,7 +120,7 @@ fn drain_all_by<W: Watch>(
     arcs: &[Shutting],
     mut search: Search,
     watch: &mut W,
-) -> Result<Drained, NoMemory>
+) -> Result<Drained, AllocError>
     requires arcs { AreOpenWith 0 arcs.now state.now.network }
     requires carrying { IsCarryingOf state.now search }
     ensures moves { IfOk result (λ drained. AreShuttingMoves state.now (numbers arcs.now) drained.moves.items) }
@@ -134,10 +134,9 @@ fn drain_all_by<W: Watch>(
             place: i + 1,
             count: arcs.len(),
         };
-        drain_in_turn(state, turn, &mut search, &mut touched, watch)?;
+        drain_in_turn(state, turn, &mut search, &mut touched, watch);
     }
-    let drained = list_drained(alloc, state, arcs, search, touched)?;
-    Ok(drained)
+    list_drained(alloc, state, arcs, search, touched)
 }
 
 /// Whether none of these arcs carries flow.
@@ -161,13 +160,13 @@ fn drain_in_turn<W: Watch>(
     search: &mut Search,
     touched: &mut Touched,
     watch: &mut W,
-) -> Result<(), Stopped>
+)
     requires is_there { has_arc state.now.network turn.arc ≡ true }
     requires to_zero { turn.limit ≡ 0 }
     requires carrying { (unpaired : List ℕ) × IsCarryingSearch state.now unpaired search.old }
-    ensures touched { OnOk result (Touches touched.old touched.new search.old.pairs search.new.pairs) }
-    ensures drains { OnOk result ((unpaired : List ℕ) → IsCarryingSearch state.now unpaired search.old → flow_on unpaired turn.arc ≡ flow_on state.now.flows turn.arc →
-        DrainsNext state.now turn.arc unpaired touched.new search.old search.new) }
+    ensures touched { Touches touched.old touched.new search.old.pairs search.new.pairs }
+    ensures drains { (unpaired : List ℕ) → IsCarryingSearch state.now unpaired search.old → flow_on unpaired turn.arc ≡ flow_on state.now.flows turn.arc →
+        DrainsNext state.now turn.arc unpaired touched.new search.old search.new }
 {
     let arc = state.arc(turn.arc);
     if arc.tail == arc.head {
@@ -176,8 +175,7 @@ fn drain_in_turn<W: Watch>(
             touched.add(turn.arc - 1);
             watch.lowered(turn, flow);
         }
-        return Ok(());
+    } else {
+        drain_along(state, turn, search, touched, watch);
     }
-    drain_along(state, turn, search, touched, watch)?;
-    Ok(())
 }

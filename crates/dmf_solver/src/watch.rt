@@ -4,7 +4,7 @@ use dmf_state::State;
 
 /// A watch gets reports of how far a solve or a drain is. A solve reports each augmenting path, in turn, and nothing else; a run also
 /// reports the state from which each solve begins. A drain reports what each path takes off. Whatever a watch does, the result of the
-/// solve or the drain is the same, except that a watch may end it. What is reported is only tested.
+/// solve or the drain is the same, except that a watch may end a solve. What is reported is only tested.
 pub trait Watch {
     /// A run begins to solve this state. This reports no path.
     fn begun(&mut self, _state: &State) {}
@@ -13,7 +13,7 @@ pub trait Watch {
     /// the one before; a path with more links begins a phase.
     fn augmented(&mut self, value: u64, links: u32);
 
-    /// Whether a solve or a drain may go on, asked after each path. If it may not, it is refused as if memory were, and only the watch
+    /// Whether a solve may go on, asked after each augmenting path. If it may not, it is refused as if memory were, and only the watch
     /// knows why.
     fn goes_on(&mut self) -> bool {
         true
@@ -23,7 +23,7 @@ pub trait Watch {
     fn lowered(&mut self, turn: Turn, amount: u64);
 }
 
-/// A watch has ended a solve or a drain.
+/// A watch has ended a solve.
 #[derive(Clone, Copy)]
 pub struct Stopped;
 

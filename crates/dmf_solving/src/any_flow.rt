@@ -3,7 +3,7 @@
 //! An engine finds a flow that is likely greatest, sooner than the search of a plan does, and a cut that likely shows this. Nothing is known of
 //! either. So both are judged. Where the flow is one of the network, a solve begins at it, and finds no augmenting path if it is greatest. Where
 //! it also saturates the cut, it is greatest, and a solve would change nothing. Where it is none, or where the engine gave none, the solve begins
-//! at the state's own flow. A watch that ends solves ends the engine, too.
+//! at the state's own flow.
 ghost use Rattle.std.specs.Prelude.{◌≡◌, length, IfOk, IfSome};
 ghost use Rattle.dmf_solver.specs.Greatest.{IsGreatest};
 ghost use Rattle.dmf_solver.specs.Planning.{IsSideWanted};
@@ -13,7 +13,7 @@ ghost use Rattle.dmf_solving.specs.SolveRun.{RunsAny, RunsBrief};
 use crate::laws::any_is_optimal;
 use crate::solve::{Solved, solve};
 use crate::solved::{write_brief, write_solved};
-use dmf_engine::{EngineWatch, Likely, likely_greatest};
+use dmf_engine::{Likely, likely_greatest};
 use dmf_solver::{Watch, is_saturated_cut};
 use dmf_state::{NoMemory, State};
 use dmf_streams::{EngineFault, Status, flush, read_state};
@@ -38,7 +38,7 @@ pub fn run_solve_brief<P: Source, W: Sink, V: Watch>(
     accepted_is_state();
     any_is_optimal();
     let state = read_state(alloc, problem)?;
-    let solved = solve_any(alloc, state, want_cut, false, watch)?;
+    let solved = solve_any(alloc, state, want_cut, watch)?;
     write_brief(&solved.state, &solved.side, out)?;
     flush(out)?;
     Ok(Status::Well)
@@ -61,83 +61,44 @@ pub fn run_solve_any<P: Source, W: Sink, V: Watch>(
 {
     any_is_optimal();
     let state = read_state(alloc, problem)?;
-    let solved = solve_any(alloc, state, want_cut, true, watch)?;
+    let solved = solve_any(alloc, state, want_cut, watch)?;
     write_solved(&solved.state, &solved.side, out)?;
     flush(out)?;
     Ok(Status::Well)
 }
 
 /// Finds some greatest flow of a state's network, and its smallest side if this is wanted, by a flow that the engine finds, or by an ordinary
-/// solve where it finds none. With `want_flow` the engine's flow likely runs round in no cycle. Drops the state if memory is refused. Reports to
-/// the watch what [`solve_from`] reports.
-///
-/// The watch is also asked, every few milliseconds, whether the engine may go on. If it may not, memory is said to be refused, as if a solve
-/// had been ended.
+/// solve where it finds none. Drops the state if memory is refused. Reports to the watch what [`solve_from`] reports.
 pub fn solve_any<V: Watch>(
     alloc: Global,
     state: State,
     want_cut: bool,
-    want_flow: bool,
     watch: &mut V,
 ) -> Result<Solved, NoMemory>
     ensures network { IfOk result (λ solved. solved.state.network ≡ state.network) }
     ensures greatest { IfOk result (λ solved. IsGreatest solved.state.network solved.state.flows) }
     ensures side { IfOk result (λ solved. IsSideWanted want_cut solved.state.network solved.side) }
 {
-    let likely = likely_flow(alloc, &state, want_flow, watch)?;
+    let likely = likely_flow(alloc, &state);
     solve_from(alloc, state, likely, want_cut, watch)
 }
 
-/// Ends the engine where a watch ends solves.
-#[derive(Drop)]
-struct EngineEnd<'a, V: Watch> {
-    watch: &'a mut V,
-    has_ended: bool,
-}
-
-impl<V: Watch> EngineWatch for EngineEnd<'_, V> {
-    fn goes_on(&mut self) -> bool {
-        self.has_ended = !self.watch.goes_on();
-        !self.has_ended
-    }
-}
-
-/// The flow and the cut that the engine finds. `None` if it gives up or memory is refused. Fails if the watch ends it.
-fn likely_flow<V: Watch>(
-    alloc: Global,
-    state: &State,
-    want_flow: bool,
-    watch: &mut V,
-) -> Result<Option<Likely>, NoMemory>
-    ensures { IfOk result (λ answer. IfSome answer (λ likely. length likely.flows.items ≡ length state.now.network.arcs)) }
+/// The flow and the cut that the engine finds. `None` if it gives up or memory is refused.
+fn likely_flow(alloc: Global, state: &State) -> Option<Likely>
+    ensures { IfSome result (λ likely. length likely.flows.items ≡ length state.now.network.arcs) }
 {
-    let mut end = EngineEnd {
-        watch,
-        has_ended: false,
+    let arcs = state.arcs();
+    let Ok(found) = likely_greatest(alloc, state.nodes(), state.source(), state.sink(), arcs) else {
+        return None;
     };
-    let found = likely_greatest(
-        alloc,
-        state.nodes(),
-        state.source(),
-        state.sink(),
-        state.arcs(),
-        want_flow,
-        &mut end,
-    );
-    if end.has_ended {
-        return Err(NoMemory);
-    }
-    match found {
-        Ok(answer) => Ok(answer),
-        Err(_) => Ok(None),
-    }
+    found
 }
 
 /// Finds some greatest flow of a state's network, and the smallest side of this if it is wanted. Begins at the likely flow where this is a flow of
 /// the network, else at the state's own. Drops the state if memory is refused.
 ///
 /// Reports to the watch the state from which the solve begins, and each augmenting path: none if the flow of this state is greatest. Without a
-/// side it makes no links where the flow saturates the likely cut. The watch can end the solve before it begins, too.
+/// side it makes no links where the flow saturates the likely cut.
 pub fn solve_from<V: Watch>(
     alloc: Global,
     state: State,
@@ -160,9 +121,6 @@ pub fn solve_from<V: Watch>(
             state: begun,
             side: None,
         });
-    }
-    if !watch.goes_on() {
-        return Err(NoMemory);
     }
     solve(alloc, begun, want_cut, watch)
 }

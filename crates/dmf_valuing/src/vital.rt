@@ -129,7 +129,7 @@ fn run_valuing<P: Source, W: Sink, V: Watch + ValuingWatch>(
     ensures { RunsVitalIn (PartsLackRoom parts) (ArePartRows parts) (P.left problem.old) (P.left problem.new) (W.written out.old) (W.written out.new) result }
 {
     let state = read_state(alloc, problem)?;
-    let solved = solve_any(alloc, state, false, true, watch)?;
+    let solved = solve_any(alloc, state, false, watch)?;
     let rows = find_rows(alloc, parts, &solved.state, watch)?;
     write_vital(solved.state.value(), &rows, out)?;
     flush(out)?;

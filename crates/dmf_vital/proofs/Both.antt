@@ -13,7 +13,7 @@ use Rattle.dmf_state.proofs.ChangedArc.{has_arc-within, IsFlow-with_arc, IsNetwo
 use Rattle.dmf_state.proofs.Changing.{within-at}
 use Rattle.dmf_solver.specs.Greatest.{IsGreatest}
 use Rattle.dmf_vital.specs.declared.worst.Limits.{Limits}
-use Rattle.dmf_vital.specs.Entering.{AreWorstUpTo, IsLossBound, IsShutOut}
+use Rattle.dmf_vital.specs.Entering.{AreWorstUpTo, IsShutOut}
 use Rattle.dmf_vital.specs.GreatestValue.{IsGreatestValue}
 use Rattle.dmf_vital.specs.declared.rest.Rest.{Rest}
 use Rattle.dmf_vital.specs.declared.worst.NumberedLoss.{NumberedLoss}
@@ -100,12 +100,18 @@ module _ (s : NetworkState) (rest : Rest) (value less : ℕ) (state : IsState s)
       let joined : IsLoss (without_arc n i) (without_pair n i j) loss = subst (λ m. IsLoss m (without_arc m j) loss) is.network own.1 in
       (is.is_there, has, loss-joined n (without_arc n i) (without_pair n i j) (value - less) loss lost-is joined)
 
-  -- It is at most a bound of the other arc's loss there beside what is lost.
-  pub pair-at_most : (j bound loss : ℕ) → IsLossBound rest.state.network j bound → IsLossOfPair n i j loss → loss ≤ value - less + bound
-  pair-at_most j bound loss most pair =
+  -- It is at most what the other arc carries there beside what is lost.
+  pub pair-at_most : (j loss : ℕ) → IsLossOfPair n i j loss → loss ≤ value - less + flow_on rest.rerouting.flows.items j
+  pair-at_most j loss pair =
       let has : has_arc rest.state.network j ≡ true = rw is.network (has-without n i j pair.1) in
       let some = some-loss rest.state.network j is.ready.network has in
-      omega (arith, most some.0 some.1, one-loss n (without_pair n i j) loss (value - less + some.0) pair.2 (pair-loss j some.0 pair.1 some.1).2)
+      let most = loss-at_most_flow rest.state.network rest.rerouting.flows.items j some.0 is.ready.network is.ready.greatest some.1 in
+      omega (arith, most, one-loss n (without_pair n i j) loss (value - less + some.0) pair.2 (pair-loss j some.0 pair.1 some.1).2)
+
+  -- There is a flow on each arc.
+  pub long-rest : length rest.rerouting.flows.items ≡ length n.arcs
+  long-rest = AllZip-long _ rest.state.network.arcs rest.rerouting.flows.items is.ready.greatest.flow.within ∙ ap (λ m. length m.arcs) is.network
+      ∙ length-set n.arcs (i - 1) (closed_arc (arc_number n i))
 
 -- ---- beside the flow of the whole network
 

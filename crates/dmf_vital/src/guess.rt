@@ -3,7 +3,7 @@ ghost use Rattle.dmf_state.specs.Network.{has_arc};
 ghost use Rattle.dmf_solver.specs.Greatest.{IsGreatest};
 ghost use Rattle.dmf_vital.specs.Rest.{AreThere, IsRest, IsWhole};
 
-use crate::rest::{Rest, Whole, largest_with, leave_out, loss_with, lower_with};
+use crate::rest::{Rest, Whole, largest_with, leave_out, loss_with};
 use crate::watch::{ValuingWatch, report};
 use crate::worst::{NumberedLoss, is_among};
 use dmf_state::{NoMemory, State};
@@ -31,7 +31,10 @@ pub fn guess_least<W: ValuingWatch>(
         leave(&mut left, tried[k].number);
         note_losses(state, &mut rest, &left, most, &mut greatest, watch)?;
     }
-    Ok(last_of(&greatest, most))
+    if most == 0 || greatest.len() < most {
+        return Ok(0);
+    }
+    Ok(greatest[most - 1])
 }
 
 /// Arc number `j` is no longer among these.
@@ -78,7 +81,6 @@ fn note_second(
     if !is_among(among, j) {
         return Ok(());
     }
-    lower_with(state, rest, j, last_of(greatest, most))?;
     if !may_note(greatest, most, largest_with(state, rest, j)) {
         return Ok(());
     }
@@ -92,14 +94,6 @@ pub fn may_note(greatest: &[u64], most: usize, loss: u64) -> bool {
         return false;
     }
     greatest.len() < most || greatest[most - 1] < loss
-}
-
-/// The last of the `most` greatest losses; 0 if there are fewer.
-pub fn last_of(greatest: &[u64], most: usize) -> u64 {
-    if most == 0 || greatest.len() < most {
-        return 0;
-    }
-    greatest[most - 1]
 }
 
 /// Puts a loss in its place among the `most` greatest.

@@ -5,15 +5,13 @@ ghost use Rattle.dmf_state.specs.Network.{has_arc};
 ghost use Rattle.dmf_vital.specs.Ranks.{AreRanks};
 ghost use Rattle.dmf_vital.specs.Shifted.{IsReady};
 
-use crate::guess::{last_of, leave, may_note, note};
-use crate::loss_bound::loss_bound;
-use crate::order::{index_of, keyed};
+use crate::guess::{leave, may_note, note};
 use crate::rerouting::{Rerouting, lower_arc};
 use crate::rest::largest_flow;
 use crate::watch::{ValuingWatch, report};
 use crate::worst::is_among;
 use dmf_state::{NoMemory, State};
-use std::alloc::{AllocError, Global};
+use std::alloc::Global;
 
 /// A guess is made only for a list with room for at most one in this many arcs.
 const ARCS_PER_ROOM: usize = 64;
@@ -31,9 +29,8 @@ struct Noted {
 
 /// Guesses a loss that `most` of these arcs reach; 0 if it finds none, or if `most` is large.
 ///
-/// Looks at the arcs that may lose more than half of the largest flow, then at those that may lose more than a quarter, and so on, until what
-/// is left carries no more than the last of the losses that were found. Of each arc it moves off only what it carries beyond that loss, and
-/// those that may lose most come first: in the order of numbers many searches on hard networks would be long.
+/// Looks at the arcs that carry more than half of the largest flow, then at those with more than a quarter, and so on, until what is left
+/// carries no more than the last of the losses that were found. Of each arc it moves off only what it carries beyond that loss.
 pub fn guess_least_loss<W: ValuingWatch>(
     alloc: Global,
     state: &State,
@@ -59,14 +56,13 @@ pub fn guess_least_loss<W: ValuingWatch>(
     let mut floor = largest_flow(&rerouting.flows);
     while floor > 0 && may_note(&noted.greatest, most, floor) {
         floor /= 2;
-        note_above(alloc, state, ranks, rerouting, floor, &mut noted, watch)?;
+        note_above(state, ranks, rerouting, floor, &mut noted, watch)?;
     }
-    Ok(last_of(&noted.greatest, most))
+    Ok(last_of(&noted))
 }
 
-/// Notes the losses of the arcs that may lose more than the floor, from those that may lose most.
+/// Notes the losses of the arcs that carry more than the floor.
 fn note_above<W: ValuingWatch>(
-    alloc: Global,
     state: &State,
     ranks: &[u32],
     rerouting: &mut Rerouting,
@@ -79,48 +75,14 @@ fn note_above<W: ValuingWatch>(
     ensures ready { IsReady state.now rerouting.new }
     ensures ranks { AreRanks state.now.network rerouting.new.flows.items ranks.now }
 {
-    report(watch, 0, state.arcs().len())?;
-    let order = list_above(alloc, state, rerouting, floor, &noted.left)?;
-    for at in 0..order.len() {
-        report(watch, at, state.arcs().len())?;
-        let k = index_of(order[at]);
-        if k < state.arcs().len() {
-            note_arc(state, ranks, rerouting, floor, noted, k as u32 + 1)?;
-        }
+    for k in 0..state.arcs().len() {
+        report(watch, k, state.arcs().len())?;
+        note_arc(state, ranks, rerouting, floor, noted, k as u32 + 1)?;
     }
     Ok(())
 }
 
-/// Lists the indices, with keys, of those arcs left that may lose more than the floor, from those that may lose most.
-fn list_above(
-    alloc: Global,
-    state: &State,
-    rerouting: &Rerouting,
-    floor: u64,
-    left: &[bool],
-) -> Result<Vec<u64>, AllocError>
-    requires { IsReady state.now rerouting.now }
-{
-    let mut order = Vec::new(alloc);
-    for k in 0..state.arcs().len() {
-        let bound = loss_bound(state, rerouting, k as u32 + 1);
-        if bound > floor && k < left.len() && left[k] {
-            order.push(keyed(depth(bound, floor), k))?;
-        }
-    }
-    order.sort_unstable();
-    Ok(order)
-}
-
-/// A number that is the smaller, the farther a bound is above the floor. It tells bounds up to twice the floor apart, in steps of the floor
-/// divided by 2^32.
-fn depth(bound: u64, floor: u64) -> u32 {
-    let step = floor / (1 << 32) + 1;
-    let steps = bound.saturating_sub(floor) / step;
-    u32::MAX - u32::try_from(steps).unwrap_or(u32::MAX)
-}
-
-/// Notes the loss of arc number `j`, if it may lose more than the floor and was not looked at.
+/// Notes the loss of arc number `j`, if it carries more than the floor and was not looked at.
 fn note_arc(
     state: &State,
     ranks: &[u32],
@@ -135,20 +97,28 @@ fn note_arc(
     ensures ready { IsReady state.now rerouting.new }
     ensures ranks { AreRanks state.now.network rerouting.new.flows.items ranks.now }
 {
-    if loss_bound(state, rerouting, j) <= floor || !is_among(&noted.left, j) {
+    if carried(rerouting, j) <= floor || !is_among(&noted.left, j) {
         return Ok(());
     }
     leave(&mut noted.left, j);
-    lower_arc(
-        state,
-        ranks,
-        rerouting,
-        j,
-        last_of(&noted.greatest, noted.most),
-    )?;
-    Ok(note(
-        &mut noted.greatest,
-        noted.most,
-        loss_bound(state, rerouting, j),
-    )?)
+    lower_arc(state, ranks, rerouting, j, last_of(noted))?;
+    Ok(note(&mut noted.greatest, noted.most, carried(rerouting, j))?)
+}
+
+/// What arc number `j` carries.
+fn carried(rerouting: &Rerouting, j: u32) -> u64 {
+    let k = (j as usize).saturating_sub(1);
+    if k < rerouting.flows.len() {
+        rerouting.flows[k]
+    } else {
+        0
+    }
+}
+
+/// The last of as many losses as are kept; 0 if there are fewer.
+fn last_of(noted: &Noted) -> u64 {
+    if noted.most == 0 || noted.greatest.len() < noted.most {
+        return 0;
+    }
+    noted.greatest[noted.most - 1]
 }

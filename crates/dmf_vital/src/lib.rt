@@ -35,7 +35,6 @@ mod hop;
 mod laws;
 mod least_loss;
 mod loss;
-mod loss_bound;
 mod order;
 mod pairs;
 mod parts;

@@ -66,7 +66,7 @@ fn count_own(firsts: &[u32]) -> usize {
 }
 
 /// An index with a place before it, so that numbers of this form are in the order of the places.
-pub fn keyed(place: u32, index: usize) -> u64 {
+fn keyed(place: u32, index: usize) -> u64 {
     u64::from(place)
         .wrapping_mul(1 << 32)
         .wrapping_add(index as u64)

@@ -10,12 +10,10 @@ use crate::guess::guess_least;
 use crate::rerouting::{find_ranks, make_rerouting};
 use crate::rest::{
     Rest, Whole, close_arc, largest_beside, largest_flow, largest_with, leave_out, loss_with,
-    lower_with, make_whole, move_off_arc, rest_without,
+    make_whole, move_off_arc, rest_without,
 };
 use crate::watch::{ValuingWatch, report};
-use crate::worst::{
-    Limits, NumberedLoss, consider, is_among, list_worst_arcs, may_enter, too_small,
-};
+use crate::worst::{Limits, NumberedLoss, consider, is_among, list_worst_arcs, may_enter};
 use dmf_solver::Unwatched;
 use dmf_state::{NoMemory, State};
 use std::alloc::Global;
@@ -247,11 +245,10 @@ fn consider_second(
     if !is_among(among, j) {
         return Ok(());
     }
-    let number = rest.without;
-    lower_with(state, rest, j, too_small(worst, limits))?;
     if !may_enter(worst, limits, largest_with(state, rest, j)) {
         return Ok(());
     }
+    let number = rest.without;
     let loss = loss_with(state, rest, j)?;
     let one = NumberedLoss {
         number,

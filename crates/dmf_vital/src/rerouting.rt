@@ -120,7 +120,7 @@ pub fn loss_of_node(
 }
 
 /// Moves flow off arc number `j` to other ways, until it carries no more than this or no way is left. Returns true if none is: what it
-/// carries is lost without it. Moves nothing if it carries no more than this in the state's own flow.
+/// carries is lost without it.
 pub fn lower_arc(
     state: &State,
     ranks: &[u32],
@@ -169,8 +169,7 @@ pub fn loss_of_lowered(
     loss_of_arc(state, ranks, rerouting, j)
 }
 
-/// Moves flow from the exits to other ways, until they carry no more than this or no way is left. Returns true if none is. Moves nothing if
-/// they carry no more than this in the state's own flow.
+/// Moves flow from the exits to other ways, until they carry no more than this or no way is left. Returns true if none is.
 fn lower(
     state: &State,
     rerouting: &mut Rerouting,
@@ -184,9 +183,6 @@ fn lower(
     ensures ready { IsReady state.now rerouting.new }
     ensures ranks { AreRanks state.now.network rerouting.new.flows.items exits.entry.ranks.now }
 {
-    if flow_on_exits(state, &rerouting.along, exits, state.flows()) <= bound {
-        return Ok(false);
-    }
     let mut left = flow_on_exits(state, &rerouting.along, exits, &rerouting.flows);
     while left > bound {
         let moved = move_off(state, rerouting, exits)?;

@@ -5,8 +5,7 @@ ghost use Rattle.dmf_vital.specs.Loss.{IsLossOfPair};
 ghost use Rattle.dmf_vital.specs.Rest.{IsRest, IsWhole};
 ghost use Rattle.dmf_vital.specs.Without.{without_arc};
 
-use crate::loss_bound::loss_bound;
-use crate::rerouting::{Rerouting, find_ranks, loss_of_arc, lower_arc, make_rerouting};
+use crate::rerouting::{Rerouting, find_ranks, loss_of_arc, make_rerouting};
 use dmf_solver::{plan_close, plan_solve};
 use dmf_state::{NoMemory, State};
 use std::alloc::{AllocError, Global};
@@ -93,27 +92,8 @@ pub fn largest_with(state: &State, rest: &Rest, j: u32) -> u64
     ensures { (loss : ℕ) → IsLossOfPair state.now.network rest.now.without j loss → loss ≤ result }
 {
     let lost = state.value() - rest.state.value();
-    let bound = lost.saturating_add(loss_bound(&rest.state, &rest.rerouting, j));
+    let bound = lost.saturating_add(rest.rerouting.flows[j as usize - 1]);
     bound.min(state.value())
-}
-
-/// Moves flow off arc number `j` to other ways, until no more than this is lost without both arcs, the closed one and this, or no way is left.
-pub fn lower_with(state: &State, rest: &mut Rest, j: u32, bound: u64) -> Result<(), NoMemory>
-    requires is_there { has_arc state.now.network j ≡ true }
-    requires greatest { IsGreatest state.now.network state.now.flows }
-    requires rest { IsRest state.now.network rest.old }
-    ensures rest { IsRest state.now.network rest.new }
-    ensures same { rest.new.without ≡ rest.old.without }
-{
-    let lost = state.value() - rest.state.value();
-    lower_arc(
-        &rest.state,
-        &rest.ranks,
-        &mut rest.rerouting,
-        j,
-        bound.saturating_sub(lost),
-    )?;
-    Ok(())
 }
 
 /// What is lost without both arcs, the closed one and arc number `j`.

@@ -2,8 +2,4 @@
 #![tactic(auto)]
 
 #[cfg(test)]
-mod cycles;
-#[cfg(test)]
-mod ending;
-#[cfg(test)]
 mod tests;

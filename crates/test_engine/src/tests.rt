@@ -1,6 +1,6 @@
 ghost use Rattle.std.specs.Prelude.{◌<◌, ◌≡◌, length, IfOk, IfSome};
 
-use dmf_engine::{EngineWatch, Likely, likely_greatest};
+use dmf_engine::{Likely, likely_greatest};
 use dmf_solver::{Turn, Unwatched, Watch, is_saturated_cut, plan_solve_watched};
 use dmf_solving::{Solved, solve_from};
 use dmf_state::{Arc, Side, State};
@@ -8,7 +8,7 @@ use std::alloc::Global;
 use std::test::Fail;
 
 /// The next number below a bound, by a linear congruential generator.
-pub fn draw(chance: &mut u64, bound: u64) -> u64
+fn draw(chance: &mut u64, bound: u64) -> u64
     requires { 0 < bound }
     ensures { result < bound }
 {
@@ -19,7 +19,7 @@ pub fn draw(chance: &mut u64, bound: u64) -> u64
 }
 
 /// A network of 2 to 10 nodes and up to 39 arcs, some of them parallel, self loops or without capacity.
-pub fn network(alloc: Global, seed: u64) -> Result<State, Fail> {
+fn network(alloc: Global, seed: u64) -> Result<State, Fail> {
     let mut chance = seed;
     let nodes = 2 + (seed % 9) as u32;
     let mut state = State::new(alloc, nodes, 1, nodes);
@@ -43,22 +43,16 @@ impl Watch for Paths {
     fn lowered(&mut self, _turn: Turn, _amount: u64) {}
 }
 
-impl EngineWatch for Paths {
-    fn goes_on(&mut self) -> bool {
-        true
-    }
-}
-
 /// What a solve finds: the value, the smallest side if it is wanted, and how many augmenting paths it takes.
 #[derive(Drop)]
-pub struct Found {
-    pub value: u64,
+struct Found {
+    value: u64,
     side: Option<Side>,
     paths: u64,
 }
 
 /// What a solve finds that may begin at a flow.
-pub fn found_from(
+fn found_from(
     alloc: Global,
     state: &State,
     likely: Option<Likely>,
@@ -96,19 +90,11 @@ fn is_right(alloc: Global, state: &State, found: &Found) -> Result<bool, Fail> {
 }
 
 /// What the engine finds.
-pub fn likely_of(alloc: Global, state: &State, want_flow: bool) -> Result<Likely, Fail>
+fn likely_of(alloc: Global, state: &State) -> Result<Likely, Fail>
     ensures { IfOk result (λ likely. length likely.flows.items ≡ length state.now.network.arcs) }
 {
-    let mut watch = Paths(0);
-    match likely_greatest(
-        alloc,
-        state.nodes(),
-        state.source(),
-        state.sink(),
-        state.arcs(),
-        want_flow,
-        &mut watch,
-    )? {
+    let (source, sink) = (state.source(), state.sink());
+    match likely_greatest(alloc, state.nodes(), source, sink, state.arcs())? {
         Some(likely) => Ok(likely),
         None => Err(Fail::from("the engine gave up")),
     }
@@ -119,11 +105,11 @@ pub fn likely_of(alloc: Global, state: &State, want_flow: bool) -> Result<Likely
 fn engine_finds_greatest_flows(rt: HostRuntime) -> Result<(), Fail> {
     for seed in 0..100_000 {
         let state = network(rt.alloc(), seed)?;
-        let Likely { flows, marks } = likely_of(rt.alloc(), &state, seed % 2 == 0)?;
+        let Likely { flows, marks } = likely_of(rt.alloc(), &state)?;
         let begun = state.with_flows(rt.alloc(), flows)?;
         assert!(rt; is_saturated_cut(&begun, &marks));
         for want_cut in [false, true] {
-            let likely = likely_of(rt.alloc(), &state, seed % 2 == 0)?;
+            let likely = likely_of(rt.alloc(), &state)?;
             let found = found_from(rt.alloc(), &state, Some(likely), want_cut)?;
             assert!(rt; found.side.is_some() == want_cut);
             assert!(rt; found.paths == 0);
@@ -235,7 +221,7 @@ fn wrong_cuts_do_no_harm(rt: HostRuntime) -> Result<(), Fail> {
     for marked in [Marked::Nobody, Marked::Everybody, Marked::TooFew] {
         for seed in 0..80 {
             let state = network(rt.alloc(), seed)?;
-            let Likely { flows, marks: _ } = likely_of(rt.alloc(), &state, false)?;
+            let Likely { flows, marks: _ } = likely_of(rt.alloc(), &state)?;
             let marks = wrong_marks(rt.alloc(), &state, marked)?;
             let likely = Some(Likely { flows, marks });
             let found = found_from(rt.alloc(), &state, likely, false)?;

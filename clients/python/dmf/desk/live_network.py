@@ -28,8 +28,6 @@ from .steps import Add, Change, Close, Follow, MakePlace, Marks, Node, Reopen, S
 
 # How many nodes are added at once for places that may be made.
 SPARES = 8
-# The least number of arcs of a network whose first solve makes any maximum flow.
-LARGE = 100_001
 
 
 class LiveNetwork(NetworkArcs):
@@ -74,8 +72,8 @@ class LiveNetwork(NetworkArcs):
 
     def stand_on(self, steps: tuple[Step, ...]) -> tuple[Step, ...]:
         """Bring the network to the state after these steps, and return them as they are made now.
-        Without a session it can only go to states in its history; otherwise raises `SessionEnded`.
-        """
+        Steps at the end whose value is only promised are made by `make` alone. Without a session it
+        can only go to states in its history; otherwise raises `SessionEnded`."""
         kept, found = self.network._kept, self._found
         if (
             found
@@ -90,13 +88,13 @@ class LiveNetwork(NetworkArcs):
             self.drop()
         same = place = 0
         for step in steps:
-            if not kept.has_after(place, step.made):
+            if step.made is None or not kept.has_after(place, step.made):
                 break
             same, place = same + 1, place + len(step.made)
+        left = steps[same:] if any(step.made is not None for step in steps[same:]) else ()
         self._go(place, steps[same - 1].marks if same else Marks())
-        if same < len(steps):
-            left = (self.make(step.text, step.changes) for step in steps[same:])
-            steps = (*steps[:same], *left)
+        if left:
+            steps = (*steps[:same], *(self.make(step.text, step.changes) for step in left))
         self._found = kept.moment, steps, self.marks
         return steps
 
@@ -114,6 +112,11 @@ class LiveNetwork(NetworkArcs):
                 self.network.redo(by)
             self._is_moving = False
         self._mark(marks)
+
+    def promise(self, value: int) -> Step:
+        """Return the step that solves, for a caller that knows the greatest value already. The
+        session makes it when its flows are asked for."""
+        return Step("solve", (Solve(),), self.measure.quantity(value), self.marks)
 
     def extend(
         self, steps: tuple[Step, ...], text: str, changes: tuple[Change, ...]
@@ -151,12 +154,7 @@ class LiveNetwork(NetworkArcs):
         """Make a change of the network."""
         network, nodes, marks = self.network, self._nodes, self.marks
         if isinstance(change, Solve):
-            # The first solve begins from nothing, where any maximum flow is found many times sooner
-            # if the network is hard; later ones go on from the present flow, and move as little as
-            # they can. A smaller network is solved quickly either way, and then the flow that a
-            # solve makes is better to look at: any maximum flow may take longer ways.
-            is_first = network._kept.place == 0
-            network.solve(any=is_first and self.first_count >= LARGE)
+            network.solve()
         elif isinstance(change, MakePlace):
             self.marks = marks._replace(made=(*marks.made, change.name))
             self.names.call(self.marks.made)

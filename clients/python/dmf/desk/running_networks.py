@@ -1,5 +1,5 @@
 """The networks of a desk whose sessions run: the present one, and one on which its steps are made
-again."""
+again; and the first answer, while it is computed."""
 
 from __future__ import annotations
 
@@ -9,15 +9,18 @@ from collections.abc import Sequence
 from ..errors import Error
 from ..session.base import Program
 from ..tables.loader import LoadedProblem
+from .answers import FirstAnswer
 from .live_network import LiveNetwork
 from .steps import Step
 
 
 class RunningNetworks:
-    """The networks whose sessions run. All of them can be ended from another thread."""
+    """The networks whose sessions run. All of them can be ended from another thread. `first` is the
+    first answer about the problem, if it is computed by a program."""
 
     def __init__(self, program: Program = None) -> None:
         self._program = program
+        self.first: FirstAnswer | None = None
         self._networks: list[LiveNetwork] = []
 
     def begin(self, subject: LoadedProblem) -> LiveNetwork:
@@ -46,6 +49,9 @@ class RunningNetworks:
             self._networks.remove(network)
 
     def break_off(self, why: str) -> None:
-        """End every session at once, also for threads that wait for an answer."""
+        """End every session at once, and the program that finds the first answer, also for threads
+        that wait for an answer."""
+        if self.first:
+            self.first.end()
         for network in [*self._networks]:
             network.break_off(why)

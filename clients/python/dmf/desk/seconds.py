@@ -140,6 +140,7 @@ def seconds_of(
     wanted = list(numbers)
     for number in wanted:
         desk.network.open_arcs(number)
+    desk.follow()
     network, value, limit = desk.network, desk.value, desk.cut_arcs()
     # A second arc beside one that is not in the limit leaves the limit as it is, and so the value,
     # if there is room for its capacity.

@@ -27,6 +27,10 @@ class StepHistory(ABC):
     def take(self, after: DeskState) -> None:
         """Replace the present state by a prepared one."""
 
+    @abstractmethod
+    def follow(self) -> None:
+        """Find the flows, if only the value and the limit are known so far."""
+
     @property
     def trials(self) -> int:
         """Return how many trials are open."""
@@ -87,6 +91,7 @@ class StepHistory(ABC):
 
     def _move(self, at: int, floors: tuple[int, ...]) -> None:
         """Go to the state after the first `at` steps, in these trials."""
+        self.follow()
         network, before = self.network, self.state
         if at == before.at:
             self.state = replace(before, floors=floors)

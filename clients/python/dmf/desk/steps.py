@@ -137,14 +137,14 @@ Change = Union[Solve, Close, Cap, MakePlace, Add, Reopen, Shut]
 class Step:
     """A step: what was done, in words; the changes that were asked for; the value of the flow after
     it; and the marks after it. `made` are the changes in the network's history, by which one sees
-    whether the session has made the step. `by` is the difference to the value before, in words, and
-    empty for the first step."""
+    whether the session has made the step; None if it never did. `by` is the difference to the value
+    before, in words, and empty for the first step."""
 
     text: str
     changes: tuple[Change, ...]
     value: Quantity
     marks: Marks
-    made: tuple[session.Change, ...] = field(repr=False, compare=False)
+    made: tuple[session.Change, ...] | None = field(default=None, repr=False, compare=False)
     by: str = field(default="", repr=False, compare=False)
 
     @cached_property

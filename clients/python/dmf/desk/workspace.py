@@ -26,7 +26,7 @@ from ..quantity import Quantity, plain_text
 from ..session.base import Program
 from ..tables.loader import LoadedProblem
 from ..text.spelling import quoted_name
-from .answers import Answers, Limit
+from .answers import Answers, FirstAnswer, Limit
 from .desk_state import DeskState
 from .live_network import LiveNetwork
 from .pipes import TwoWayPipe
@@ -45,6 +45,9 @@ class Desk(StepHistory):
     ----------
     with_solve
         Whether each step solves after its change, so that its value is always the greatest.
+    may_follow
+        Whether the first solve of a large network may find the value and the limit alone; then
+        `follow`, or a call that needs them, finds the flows.
     running
         What has the networks of the desk, for a caller whose other threads may end them before the
         desk is made.
@@ -55,18 +58,26 @@ class Desk(StepHistory):
         subject: LoadedProblem,
         *,
         with_solve: bool = False,
+        may_follow: bool = False,
         program: Program = None,
         running: RunningNetworks | None = None,
     ) -> None:
         self._running = running or RunningNetworks(program)
+        first = FirstAnswer.of(subject, program) if with_solve and may_follow else None
+        self._running.first = first
         network = self._running.begin(subject)
         self.with_solve = with_solve
         # The network of the desk for which this one tries something out, if it does.
         self._lent: LiveNetwork | None = None
         self.state = DeskState(network)
         if with_solve:
-            steps = network.extend((), "solve", (Solve(),))
-            self.state = replace(self.state, steps=steps, at=1, floors=(1,), turn=1)
+            found = first.wait() if first else None
+            self._running.first = None
+            answers = Answers(found.side, found.value) if found else Answers()
+            solve = "solve", (Solve(),)
+            steps = (network.promise(found.value),) if found else network.extend((), *solve)
+            begun = replace(self.state, steps=steps, at=1, floors=(1,), turn=1)
+            self.state = replace(begun, answers=answers)
 
     # The state, and its replacement by another one.
 
@@ -97,6 +108,21 @@ class Desk(StepHistory):
             self.state = replace(self.state, news=())
         return [*news]
 
+    def follow(self) -> None:
+        """Find the flows, if only the value and the limit are known so far."""
+        state = self.state
+        if state.answers.promised is None:
+            return
+        network, (promise, *undone) = self.network, state.steps
+        (step,) = network.extend((), promise.text, promise.changes)
+        if step.value != promise.value:
+            network.drop()
+            found, wanted = (network.measure.whole(it.value) for it in (step, promise))
+            raise DeskFault(f"the session found the value {found}, and {wanted} was expected")
+        self.state = replace(
+            state, steps=(step, *undone), answers=replace(state.answers, promised=None)
+        )
+
     def break_off(self, why: str) -> None:
         """End every running session at once, also for a thread that waits for it."""
         self._running.break_off(why)
@@ -114,6 +140,7 @@ class Desk(StepHistory):
         """Yield the present state on a network whose numbers can express these amounts. If they
         have too few decimals, the steps are made again on a new session, with a finer scale. Raise
         a `DeskFault` if that is impossible. A network that the block does not take is ended."""
+        self.follow()
         before = self.network
         state, subject, finest = self.state, before.subject, ""
         for amount in amounts:
@@ -139,6 +166,7 @@ class Desk(StepHistory):
     def aside(self) -> Iterator[Desk]:
         """Yield another desk in the same state, for trials that this one does not keep. It uses the
         same session, which returns to this desk's state when this desk is asked."""
+        self.follow()
         with self.beside(self.state) as other:
             yield other
 
@@ -205,6 +233,11 @@ class Desk(StepHistory):
                 self.limit()
         return bool(self.state.answers.is_greatest)
 
+    @property
+    def flows_follow(self) -> bool:
+        """Return True if the value and the limit are known, and the flows are not yet."""
+        return self.state.answers.promised is not None
+
     def limit(self) -> Limit:
         """Return the smallest minimum cut. Raise `FlowIsNotGreatest`."""
         answers = self.state.answers
@@ -221,6 +254,7 @@ class Desk(StepHistory):
     def arc_flows(self) -> array[int]:
         """Return the flow on each arc, in the whole numbers of the session: that on arc 1 first,
         and 0 on a closed one."""
+        self.follow()
         answers = self.state.answers
         if answers.flows is None:
             answers.flows = self.network.flows()
@@ -242,7 +276,8 @@ class Desk(StepHistory):
 
     def flows_on(self, numbers: Sequence[int]) -> list[Quantity]:
         """Return the flow on each of these pipes."""
-        network, limit = self.network, self.state.answers.limit
+        network, answers = self.network, self.state.answers
+        limit = self.limit() if answers.promised is not None else answers.limit
         if limit and limit.pipes.keys() >= {*numbers}:
             # Each maximum flow fills the arcs of a minimum cut, and nothing flows back over it.
             return [
@@ -348,6 +383,7 @@ class Desk(StepHistory):
     def step(self, text: str, changes: Sequence[Change], state: DeskState | None = None) -> Step:
         """Make a new step of these changes, in these words: from the present state on, or from the
         same one on another network."""
+        self.follow()
         network = state.network if state else self.network
         before = state or self.state
         requests = self.keeper.requests(network, changes) if self.keeper else None

@@ -22,9 +22,7 @@ from .workspace import Desk
 # How many pairs of arcs are listed at first. Many of them may have an arc that is not of a pipe,
 # such as that of a source, and a long list takes little longer than a short one.
 AT_FIRST = 1_000
-# The most arcs of a network of which a page and a report say what each one is worth.
-MOST_VALUED = 100_000
-# How many pairs they list.
+# How many pairs a page and a report list.
 MOST_PAIRS = 5
 # The most arcs of a network whose pairs they list: of 3,000 arcs they take half a second of
 # processor time, and of 10,000 some seconds.

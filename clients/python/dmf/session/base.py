@@ -15,7 +15,7 @@ from enum import Enum
 from typing import Any, NamedTuple, Optional, Protocol, Union
 
 from ..errors import HistoryOutOfRange, Refused, SessionEnded, shown_value
-from ..history import SOLVE, SOLVE_ANY, Command
+from ..history import Command
 
 FilePath = Union[str, bytes, "os.PathLike[str]", "os.PathLike[bytes]"]
 Program = Optional[FilePath]
@@ -267,8 +267,8 @@ def bound(history: int | None) -> int:
 
 
 def command_line(command: Command) -> str:
-    """Return a command as a line of a session, which solves in one way."""
-    return " ".join(map(str, SOLVE if command == SOLVE_ANY else command))
+    """Return a command as a line of a session."""
+    return " ".join(map(str, command))
 
 
 def case_lines(commands: Sequence[Command]) -> list[str]:

@@ -11,7 +11,7 @@ from itertools import compress, count, islice
 from typing import Any
 
 from ..errors import Error
-from ..history import SOLVE_ANY, Command
+from ..history import Command
 from ..text.lexical import AMOUNTS, NODES
 from .base import (
     ArcColumns,
@@ -29,7 +29,7 @@ from .base import (
 )
 from .column_texts import problem_pieces
 from .library_batches import TOGETHER, pieces, run, try_together
-from .library_calls import ENDED, LONG, SIZE, WORD, LibraryCalls, loading, open_library, place_of
+from .library_calls import LONG, SIZE, WORD, LibraryCalls, loading, open_library, place_of
 from .library_gains import gains
 from .statuses import BAD_LENGTH, BAD_TEXT, FAULTS, NO_MEMORY, OK, REASONS, STOPPED
 from .stops import CallStopped, Flag, is_answered
@@ -37,9 +37,9 @@ from .worker_threads import Given, Handle, Job, Unbegun
 
 # A call that looks at no more than MOST_AT_ONCE arcs runs in the caller's thread, where Ctrl-C has
 # to wait for it to end, which takes milliseconds. Arcs count again for each thing that is valued.
-# Any other call runs in another thread, where a flag ends it, but for steps over more than
-# MOST_STEPS states, which go on there after Ctrl-C. Calls that look at each arc only a few times,
-# and steps over fewer states, run in the caller's thread in any network.
+# Any other call runs in another thread, where a flag ends solves, losses and gains; a change or a
+# maximum flow goes on there after Ctrl-C. Calls that look at each arc only a few times, and steps
+# over at most MOST_STEPS states, run in the caller's thread in any network.
 MOST_AT_ONCE, MOST_STEPS = 20_000, 4
 
 
@@ -93,7 +93,7 @@ class LibrarySession(Session):
         super().__init__(self._held.clear)
         self._arc_count = arc_count
         self._job: Job[Any] | None = None
-        # What ends solves, maximum flows, losses and gains, once one was asked for.
+        # What ends solves, losses and gains, once one was asked for.
         self._flag: Flag | None = None
 
     @property
@@ -192,7 +192,7 @@ class LibrarySession(Session):
         return self._arc_count * count > MOST_AT_ONCE
 
     def _ask(self, work: Callable[..., Given], *words: Any, count: int) -> Given:
-        """Return the answer of a call that looks at all arcs this many times. A flag ends it."""
+        """Return the losses or gains of this many things. A flag ends the call."""
         flag, is_beside = self._flag or self._new_flag(""), self._is_long(count)
         return self._do(work, *words, flag, is_beside=is_beside, changes=False, flag=flag)
 
@@ -205,11 +205,11 @@ class LibrarySession(Session):
 
     def step(self, command: Command, at: object = None) -> int:
         word, *numbers = command
-        if word in ENDED:
-            flag = self._flag or self._new_flag(command_line(command))
-            words = command, at, flag
-            return self._do(self._carried_out_until, *words, is_beside=self._is_long(), flag=flag)
-        is_beside = self._is_long() and word != "add" and numbers[0] > MOST_STEPS
+        if word == "solve":
+            flag = self._flag or self._new_flag(word)
+            return self._do(self._solved, flag, is_beside=self._is_long(), flag=flag)
+        is_short = word in ("undo", "redo") and numbers[0] <= MOST_STEPS
+        is_beside = self._is_long() and not is_short
         return self._do(self._carried_out, command, at, is_beside=is_beside)
 
     def _new_flag(self, line: str) -> Flag:
@@ -221,18 +221,13 @@ class LibrarySession(Session):
             raise refused(str(error), line, None) from None
         return self._flag
 
-    def _carried_out_until(self, held: Handle, command: Command, at: object, flag: Flag) -> int:
-        library, (word, *numbers) = self._library, command
-        if word != "solve":
-            status = library.commands[word](held.address, *numbers, flag.calling)
-        else:
-            solve = library.solve_any_until if command == SOLVE_ANY else library.solve_until
-            status = solve(held.address, flag.calling)
+    def _solved(self, held: Handle, flag: Flag) -> int:
+        status = self._library.solve_until(held.address, flag.calling)
         if status == STOPPED:
             raise CallStopped
         if status != OK:
-            raise refused(REASONS[status], command_line(command), at)
-        return library.value(held.address)
+            raise refused(REASONS[status], "solve", None)
+        return self._library.value(held.address)
 
     def carry_out(self, commands: Sequence[Command]) -> int:
         return self._do(self._carried_on, commands, is_beside=self._is_long()) if commands else 0
@@ -277,15 +272,15 @@ class LibrarySession(Session):
         return marks, self._library.side(held.address, marks.buffer_info()[0], len(marks))
 
     def maximum_flow(self, want_flows: bool, want_side: bool) -> Solved:
-        return self._ask(self._maximum_flow, want_flows, want_side, count=1)
+        words, is_beside = (want_flows, want_side), self._is_long()
+        return self._do(self._maximum_flow, *words, is_beside=is_beside, changes=False)
 
-    def _maximum_flow(self, held: Handle, want_flows: bool, want_side: bool, flag: Flag) -> Solved:
+    def _maximum_flow(self, held: Handle, want_flows: bool, want_side: bool) -> Solved:
         address, value = held.address, LONG()
         flows = array(AMOUNTS, [0]) * (self._library.arcs(address) if want_flows else 0)
         marks = array("B", bytes(self._library.nodes(address) if want_side else 0))
         columns = place_of(flows), len(flows), place_of(marks), len(marks)
-        place = ctypes.byref(value)
-        is_answered(self._library.maximum_flow(address, place, *columns, flag.calling))
+        is_answered(self._library.maximum_flow(address, ctypes.byref(value), *columns))
         return Solved(value.value, flows, list(compress(count(1), marks)))
 
     def values_without(self, part: Part) -> ValuesWithout | None:

@@ -7,7 +7,7 @@ from array import array
 from collections.abc import Iterator, Sequence
 from typing import Any
 
-from ..history import SOLVE, SOLVE_ANY, Command
+from ..history import Command
 from ..text.lexical import AMOUNTS, NODES
 from .library_calls import SIZE, LibraryCalls, place_of
 from .statuses import OK
@@ -18,16 +18,14 @@ KINDS = {"cap": 1, "add": 2, "close": 3, "shut": 4, "solve": 5, "undo": 6, "redo
 TOGETHER = 16
 # The numbers that a command does not have.
 NONE = 0, 0, 0
+SOLVE = ("solve",)
 
 
 def run(
     calls: LibraryCalls, address: ctypes.c_void_p, commands: Sequence[Command]
 ) -> tuple[int, array[int]]:
     """Carry out commands up to the first that is refused. Returns the library's status, and the
-    value after each command that was carried out. A solve by any flow stands alone."""
-    if commands[0] == SOLVE_ANY:
-        status = calls.solve_any(address)
-        return status, array(AMOUNTS, [calls.value(address)] if status == OK else [])
+    value after each command that was carried out."""
     kinds, *numbers = zip(*((KINDS[word], *rest, *NONE)[:4] for word, *rest in commands))
     values, done = array(AMOUNTS, bytes(8 * len(commands))), SIZE()
     columns = [array(NODES, kinds), *(array(AMOUNTS, column) for column in numbers), values]
@@ -38,19 +36,14 @@ def run(
 
 def pieces(commands: Sequence[Command], is_large: bool) -> Iterator[Sequence[Command]]:
     """Yield commands in their order, in pieces that cross together. On a large network, where a
-    solve may take long, only the last one of a piece is a solve; one by any flow stands alone."""
-    piece: list[Command] = []
-    for command in commands:
-        if command == SOLVE_ANY and piece:
-            yield piece
-            piece = []
-        piece.append(command)
-        is_last = command == SOLVE_ANY or is_large and command == SOLVE
-        if is_last or len(piece) == TOGETHER:
-            yield piece
-            piece = []
-    if piece:
+    solve may take long, only the last one of a piece is a solve."""
+    place = 0
+    while place < len(commands):
+        piece = commands[place : place + TOGETHER]
+        if is_large and SOLVE in piece:
+            piece = piece[: piece.index(SOLVE) + 1]
         yield piece
+        place += len(piece)
 
 
 def try_together(

@@ -15,10 +15,8 @@ from .base import Ranked
 from .versions import ABI, fits, other_version
 
 # The commands that calls of the library carry out, each with how many numbers follow its word.
-# Solves have calls of their own.
+# A solve has a call of its own.
 COMMANDS = {"cap": 2, "add": 3, "close": 1, "shut": 1, "undo": 1, "redo": 1}
-# Those that a flag ends: its address is the last argument of their calls.
-ENDED = "cap", "close", "shut", "solve"
 POINTER, WORD, LONG, SIZE = ctypes.c_void_p, ctypes.c_uint32, ctypes.c_uint64, ctypes.c_size_t
 
 
@@ -35,16 +33,11 @@ class LibraryCalls:
         self.copy = self._call("dmf_session_copy", [POINTER, POINTER])
         self.free = self._call("dmf_session_free", [POINTER], None)
         self.commands = {
-            word: self._call(
-                f"dmf_session_{word}{'_until' * (word in ENDED)}",
-                [POINTER, *[LONG] * many, *[POINTER] * (word in ENDED)],
-            )
+            word: self._call(f"dmf_session_{word}", [POINTER, *[LONG] * many])
             for word, many in COMMANDS.items()
         }
         self.run = self._call("dmf_session_run", [POINTER, *[POINTER, SIZE] * 5, POINTER])
         self.solve_until = self._call("dmf_session_solve_until", [POINTER, POINTER])
-        self.solve_any = self._call("dmf_session_solve_any", [POINTER])
-        self.solve_any_until = self._call("dmf_session_solve_any_until", [POINTER, POINTER])
         self.stop_new = self._call("dmf_stop_new", [POINTER])
         self.stop_share = self._call("dmf_stop_share", [POINTER, POINTER])
         self.stop_raise, self.stop_clear, self.stop_free = (
@@ -55,9 +48,8 @@ class LibraryCalls:
         self.arcs = self._call("dmf_session_arcs", [POINTER], SIZE)
         self.flows = self._call("dmf_session_flows", [POINTER, POINTER, SIZE])
         self.side = self._call("dmf_session_side", [POINTER, POINTER, SIZE])
-        self.maximum_flow = self._call(
-            "dmf_session_maximum_flow_until", [POINTER, POINTER, *[POINTER, SIZE] * 2, POINTER]
-        )
+        found = [POINTER, POINTER, *[POINTER, SIZE] * 2]
+        self.maximum_flow = self._call("dmf_session_maximum_flow", found)
         self.losses = {
             ranked: self._call(
                 f"dmf_session_{ranked.one}_losses_until",

@@ -116,7 +116,7 @@ def may_ask(words: argparse.Namespace) -> bool:
 
 def opened(words: argparse.Namespace) -> Desk:
     """Return the desk for the file and options in the arguments."""
-    desk = open_desk(words, with_solve=True)
+    desk = open_desk(words, with_solve=True, may_follow=True)
     for note in desk.take_news():
         warn(NAME, note)
     return desk

@@ -37,9 +37,10 @@ def add_project_words(parser: argparse.ArgumentParser) -> None:
     )
 
 
-def open_desk(words: argparse.Namespace, *, with_solve: bool) -> Desk:
+def open_desk(words: argparse.Namespace, *, with_solve: bool, may_follow: bool = False) -> Desk:
     """Return the desk for the table, the problem or the project in the arguments. Its `news` say
-    what was assumed. Raises a `ToolFault`."""
+    what was assumed. With `may_follow`, and if no project keeps the steps, the flows may be
+    computed later. Raises a `ToolFault`."""
     # A help needs no desk.
     from ..desk.garbage_collection import without_collection
     from ..desk.project.opener import beside, is_project, project_desk
@@ -75,7 +76,7 @@ def open_desk(words: argparse.Namespace, *, with_solve: bool) -> Desk:
             subject = read_subject(words, stages=Stages(watch=watch))
             if is_watched:
                 _tell("solving")
-            desk = Desk(subject, with_solve=with_solve)
+            desk = Desk(subject, with_solve=with_solve, may_follow=may_follow and not words.keep)
         return settled_desk(words, desk)
     except Refused as fault:
         raise ToolFault(f"{words.path}: {fault}", status_of(fault)) from None

@@ -108,7 +108,8 @@ class Board:
             return answer(NO_PAGE, 404)
         judge_words(words, tuple(route.fields), route.optional)
         # What can be stopped is not tried again.
-        return self._judged(partial(self._read, route, words), tries=1 if route.can_stop else 2)
+        tries, needs_flows = 1 if route.can_stop else 2, path != "state"
+        return self._judged(partial(self._read, route, words), tries, needs_flows)
 
     def _read(self, route: PageRoute, words: Mapping[str, str]) -> Made:
         """Return what a route reads, by the words of an address."""
@@ -153,12 +154,18 @@ class Board:
                 self.desk.break_off(STOPPED)
         return answer({})
 
-    def _judged(self, make: Callable[[], Made], tries: int = 1) -> Response:
-        """Return the answer, or why there is none. If the session ends meanwhile, begin another one
-        with the steps that were made, and try once more if a try is left."""
+    def _judged(
+        self, make: Callable[[], Made], tries: int = 1, needs_flows: bool = True
+    ) -> Response:
+        """Return the answer, or why there is none. If the flows are needed and not known yet, find
+        them first. If the session ends meanwhile, begin another one with the steps that were made,
+        and try once more if a try is left."""
         told = ""
         while True:
             try:
+                if needs_flows and self.desk.flows_follow:
+                    with self._stoppable():
+                        self.desk.follow()
                 made = make()
                 return (
                     made

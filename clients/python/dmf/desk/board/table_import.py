@@ -201,7 +201,9 @@ class TableImport:
 
         def read() -> None:
             reading.subject = read_subject(words, stages=reading.stages)
-            reading.desk = Desk(reading.subject, with_solve=True, running=running)
+            reading.desk = Desk(
+                reading.subject, with_solve=True, may_follow=not words.keep, running=running
+            )
 
         try:
             with without_collection():

@@ -144,6 +144,7 @@ def state_view(desk: Desk, words: Json, offer: str = "") -> Json:
         "given": network.first_count,
         "places": len(names.places),
         **kept_view(desk, offer),
+        "flows_follow": desk.flows_follow,
         "at": desk.at - 1,
         "by": moved(steps[0].value, value),
         "steps": [{"text": it.text, "value": it.told_value, "by": it.by} for it in steps],
@@ -151,12 +152,16 @@ def state_view(desk: Desk, words: Json, offer: str = "") -> Json:
         "limit_count": len(cut),
         "side": side[:MOST_SIDE],
         "side_count": len(side),
-        **(demands_view(desk) if network.folding.has_roles else NO_DEMANDS),
+        **(
+            demands_view(desk)
+            if network.folding.has_roles and not desk.flows_follow
+            else NO_DEMANDS
+        ),
         "names": list(names.places)[:MOST_LISTED],
     }
 
 
-# What is told of demands if there are none.
+# What is told of demands if there are none, or they are not known yet.
 NO_DEMANDS: Json = {"demands": "", "asked": "", "short": [], "short_count": 0}
 
 

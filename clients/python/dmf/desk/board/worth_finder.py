@@ -22,10 +22,10 @@ from ...session.base import (
 )
 from ...session.fresh import values_without, worst_without
 from ...session.runners import chosen, program_of
-from ..answers import Answers
+from ..answers import LARGE, Answers
 from ..seconds import AskedSeconds, gains_by_pipe, second_arcs
 from ..workspace import Desk
-from ..worth import MOST_PAIRED, MOST_PAIRS, MOST_VALUED, pairs_of_pipes, pipes_by_arc
+from ..worth import MOST_PAIRED, MOST_PAIRS, pairs_of_pipes, pipes_by_arc
 
 # The most arcs of a network that is solved once more by the library; a larger one is left to the
 # program, which solves hard networks many times faster. With 10,000 pipes that lead both ways it
@@ -167,7 +167,7 @@ class WorthFinder:
         arcs = len(network.lines)
         is_known = answers.knows_worth and answers.gains is not None
         is_known = is_known and (MOST_PAIRS in answers.pairs or arcs > MOST_PAIRED)
-        if is_known or arcs > MOST_VALUED:
+        if is_known or arcs >= LARGE:
             return False
         if self._run is None or self._run.answers is not answers:
             self.end()

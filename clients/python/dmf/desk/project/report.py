@@ -21,13 +21,14 @@ from ...session import executable
 from ...session.base import Program
 from ...text.lexical import display
 from ...text.table_comments import DEMAND
+from ..answers import LARGE
 from ..demands import limited_amounts
 from ..export import problem, taken
 from ..pictures.picture import Picture
 from ..seconds import MOST_SECONDS, are_found_together, seconds_of
 from ..steps import DeskFault, Solve, Step
 from ..workspace import Desk
-from ..worth import MOST_PAIRED, MOST_PAIRS, MOST_VALUED, Loss, worst, worst_pairs, worst_places
+from ..worth import MOST_PAIRED, MOST_PAIRS, Loss, worst, worst_pairs, worst_places
 from .comparison import ArcDifference, compare
 from .records import ENDING, Scenario
 from .report_findings import Demand, Findings, Section, Tried, Worst, WorstLosses
@@ -172,7 +173,7 @@ def _tried(desk: Desk) -> Tried:
 def _losses(desk: Desk) -> WorstLosses | None:
     """Return what is worst to lose, or None if the network is too large to ask."""
     network = desk.network
-    if len(network.lines) > MOST_VALUED:
+    if len(network.lines) >= LARGE:
         return None
 
     def named(found: list[Loss], more: int, name: Callable[[int], str]) -> Worst:

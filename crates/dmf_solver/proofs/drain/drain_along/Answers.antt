@@ -62,15 +62,6 @@ once g c unpaired carries =
     c.loop-left-test.true
     (c.loop-left.invariant.draining unpaired carries) c.in-Some.ensures.found
 
--- and has done once it was reported
-once-on : (g : _) (c : goal.Else-not-goes_on g) (unpaired : List ℕ) → IsCarryingSearch c.args.state.now unpaired c.args.search.now
-    → DrainsOnce c.args.state.now unpaired (flows_read Along unpaired c.args.search.now.pairs)
-    c.args.turn c.loop-left.left c.in-Some.found.amount c.augment.new.self
-once-on g c unpaired carries =
-    draining-once c.args.state.now unpaired _ c.args.turn _ c.in-Some.found _ _ c.requires.is_there c.requires.no_loop
-    c.loop-left-test.true
-    (c.loop-left.invariant.draining unpaired carries) c.in-Some.ensures.found
-
 pub lower-requires : goal.lower-requires
 lower-requires g c =
     (draining-once c.args.state.now c.requires.carrying.0 _ c.args.turn _ c.in-Some.found _ _ c.requires.is_there
@@ -81,12 +72,12 @@ overflow_sub-left g c = (once g c c.requires.carrying.0 c.requires.carrying.1).w
 
 pub loop-left-smaller : goal.loop-left-smaller
 loop-left-smaller g c =
-    let told = once-on g c c.requires.carrying.0 c.requires.carrying.1 in
+    let told = once g c c.requires.carrying.0 c.requires.carrying.1 in
     omega (arith, told.some, told.within)
 
 pub loop-left-preserved : goal.loop-left-preserved
 loop-left-preserved g c = record {
-  draining = λ unpaired carries. rw c.lower.ensures (once-on g c unpaired carries).draining;
+  draining = λ unpaired carries. rw c.lower.ensures (once g c unpaired carries).draining;
   own = c.in-Some.ensures.touched.more _ c.loop-left.invariant.own;
   touches =
       let s = c.args.state.now in

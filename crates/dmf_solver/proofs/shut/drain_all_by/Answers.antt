@@ -1,5 +1,6 @@
 use Rattle.std.proofs.Common.{◌≡◌, ◌+◌, ◌-◌, ◌∙◌, sym, ap, get_or, set, drop, take, length, List, ℕ, subst, arith}
 use Rattle.std.proofs.lemmas.List.{take_all}
+use Rattle.std.proofs.lemmas.Result.{IfOk-weaker}
 use Rattle.std.proofs.lemmas.Slice.Zip.{AllZip-long}
 use Rattle.dmf_path.specs.Touched.{AreBelow}
 use Rattle.dmf_state.specs.Edit.{numbers}
@@ -42,12 +43,12 @@ loop-i-preserved g c =
     let is = c.loop-i.invariant in
     let search = c.drain_in_turn.new.search in
     let touched = c.drain_in_turn.new.touched in
-    let touches = c.in_ok-drain_in_turn.ensures.touched in
+    let touches = c.drain_in_turn.ensures.touched in
     let rest : List ℕ = numbers (drop (i + 1) arcs) in
     let unpaired : List ℕ = flows_without (take i arcs) s.flows in
     let next : List ℕ = set unpaired ((get_or arcs i no_shutting).arc - 1) 0 in
     let same : flows_without (take (i + 1) arcs) s.flows ≡ next = emptied-next arcs s.flows i c.loop-i-test.true in
-    let drains = c.in_ok-drain_in_turn.ensures.drains unpaired is.up_to.carrying (emptied-before 0 arcs s.network s.flows i c.requires.arcs c.loop-i-test.true) in
+    let drains = c.drain_in_turn.ensures.drains unpaired is.up_to.carrying (emptied-before 0 arcs s.network s.flows i c.requires.arcs c.loop-i-test.true) in
     let pairs = length-carries s unpaired _ c.loop-i.search is.up_to.carrying in
     let long : length c.loop-i.search.pairs ≡ length s.flows + 1 =
     omega (arith, pairs, AllZip-long _ s.network.arcs s.flows c.most_touched.ensures.flow.within) in
@@ -95,5 +96,5 @@ returns-clause-moves g c =
     let js = numbers arcs in
     let last = drained_flows s arcs c.loop-i.search in
     let drained = drains g (goal.at.returns-clause-moves g c).After-loop-i in
-    shutting-moves s js last c.in_ok-drained.drained.moves.items c.most_touched.ensures (HasArcs-open 0 arcs s.network c.requires.arcs) drained
-    c.in_ok-drained.ensures.moves
+    IfOk-weaker c.list_drained.result _ _ (λ answer listed. shutting-moves s js last answer.moves.items c.most_touched.ensures
+    (HasArcs-open 0 arcs s.network c.requires.arcs) drained listed) c.list_drained.ensures.moves

@@ -39,8 +39,8 @@ returns-else-flow-gt0-clause-drains g c = λ unpaired carries first.
     drained-in_list c.args.state.now c.args.turn.arc unpaired c.args.search.now _ c.requires.is_there loop carries
     (omega (arith, first, on g (goal.at.returns-else-flow-gt0-clause-drains g c).After-flow-flow, c.if-flow-gt0.false))
 
-pub returns-clause-drains : goal.returns-clause-drains
-returns-clause-drains g c = λ unpaired carries first.
-    let drains = c.in_ok-drain_along.ensures.drains unpaired carries in
+pub returns-else-arc-clause-drains : goal.returns-else-arc-clause-drains
+returns-else-arc-clause-drains g c = λ unpaired carries first.
+    let drains = c.drain_along.ensures.drains unpaired carries in
     drained-by_search c.args.state.now c.args.turn.arc unpaired c.args.search.now c.drain_along.new.search _ (rw c.arc-arc.ensures.value at c.if-arc.false)
-    carries drains.0 (rw c.requires.to_zero at drains.1) c.in_ok-drain_along.ensures.touched.kept
+    carries drains.0 (rw c.requires.to_zero at drains.1) c.drain_along.ensures.touched.kept

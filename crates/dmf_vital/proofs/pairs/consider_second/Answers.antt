@@ -12,7 +12,7 @@ use Rattle.dmf_vital.proofs.Values.{one-loss}
 use Rattle.dmf_vital.proofs.pairs.consider_second.Goals as goal
 
 pub may_enter-requires-clause-order : goal.may_enter-requires-clause-order
-may_enter-requires-clause-order c = subst (λ (l : List NumberedLoss). AllPairs IsWorse l) (sym c.deref-2.ensures.value) c.requires.worst.in_order
+may_enter-requires-clause-order c = subst (λ (l : List NumberedLoss). AllPairs IsWorse l) (sym c.deref.ensures.value) c.requires.worst.in_order
 
 pub returns-then-not-is_among-clause-worst : goal.returns-then-not-is_among-clause-worst
 returns-then-not-is_among-clause-worst c =
@@ -31,10 +31,10 @@ returns-then-not-may_enter-clause-worst c =
     let j : ℕ = c.args.j in
     let from_one = (has_arc-within n j c.requires.is_there).0 in
     let out : IsShutOut c.largest_with.result c.args.limits c.args.worst.now.items =
-    subst (IsShutOut c.largest_with.result c.args.limits) c.deref-2.ensures.value (c.may_enter.ensures c.if-not-may_enter.true) in
+    subst (IsShutOut c.largest_with.result c.args.limits) c.deref.ensures.value (c.may_enter.ensures c.if-not-may_enter.true) in
     next-out (IsPairLossAmong n c.args.among.now) i (j - 1) i j c.args.limits c.args.worst.now.items (wider-second i j) c.requires.worst c.largest_with.result out (λ w next.
     let same = pair-next i j from_one w next.1 next.2 in
-    c.largest_with.ensures w.loss (subst (λ k. IsLossOfPair n k j w.loss) (sym c.lower_with.ensures.same) (pair-of n w i j same.0 same.1 next.0.0.1)))
+    c.largest_with.ensures w.loss (pair-of n w i j same.0 same.1 next.0.0.1))
 
 pub returns-clause-worst : goal.returns-clause-worst
 returns-clause-worst c =
@@ -42,7 +42,7 @@ returns-clause-worst c =
     let i : ℕ = c.args.rest.now.without in
     let j : ℕ = c.args.j in
     let from_one = (has_arc-within n j c.requires.is_there).0 in
-    let own : IsLossOfPair n i j c.in_ok-loss.loss = subst (λ k. IsLossOfPair n k j c.in_ok-loss.loss) c.lower_with.ensures.same c.in_ok-loss.ensures.loss in
+    let own : IsLossOfPair n i j c.in_ok-loss.loss = c.in_ok-loss.ensures.loss in
     let one : NumberedLoss = record { number = i; second = j; loss = c.in_ok-loss.loss } in
     let considered : IsConsidered c.args.limits one c.args.worst.now.items c.consider.new.worst.items = c.in_ok-consider.ensures in
     next-considered (IsPairLossAmong n c.args.among.now) i (j - 1) i j c.args.limits c.args.worst.now.items (wider-second i j) c.requires.worst one c.consider.new.worst.items

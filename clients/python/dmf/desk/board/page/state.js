@@ -20,9 +20,10 @@
  *   the words for this network: of pipes and places, or of a roster's people and shifts
  * @typedef {{ turn: number, title: string, unit: string, words: Words, notes: string[], source: string, sink: string, value: string,
  *   arcs: number, given: number, places: number, kept_in: string, scenario: string, why_not: string, floor: number,
- *   offer: string, at: number, by: string, steps: { text: string, value: string, by: string }[], limit: Arc[], limit_count: number,
- *   side: string[], side_count: number, demands: string, asked: string, short: Short[], short_count: number, names: string[],
- *   parts?: Record<string, any>, can_print: boolean }} State
+ *   offer: string, flows_follow: boolean, at: number, by: string,
+ *   steps: { text: string, value: string, by: string }[], limit: Arc[], limit_count: number, side: string[], side_count: number,
+ *   demands: string, asked: string, short: Short[], short_count: number, names: string[], parts?: Record<string, any>,
+ *   can_print: boolean }} State
  * @typedef {{ node: number, name: string, flow: string, limit: string, missing: string }} Short a place that gets less than it asks for
  * @typedef {{ arc?: number, node?: number }} Choice
  */
@@ -148,7 +149,7 @@ async function catchUp() {
 }
 
 /**
- * Shows a state.
+ * Shows a state. For a large network the board first sends the value and the bottleneck; the parts that need the flows wait for them.
  * @param {State} told
  */
 const show = (told) => busily(async () => {
@@ -156,7 +157,10 @@ const show = (told) => busily(async () => {
   activity.addresses.clear();
   // Hidden until now, since laying it out without its content would be wasted work.
   at("main").hidden = false;
-  await put("state", told);
+  const shown = put("state", told);
+  if (told.flows_follow) news("What can be sent and the bottleneck are known; the flows follow.");
+  await (told.flows_follow ? patiently(shown) : shown);
+  if (told.flows_follow) news("The flows are there.");
 });
 
 /**
